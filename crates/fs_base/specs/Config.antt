@@ -1,0 +1,25 @@
+-- A configuration, as contracts see it, and its limits.
+use Rattle.std.specs.Prelude.{ℕ, ◌≤◌}
+
+pub record Settings : Type 0 where
+  pub servers : ℕ
+  pub nodes : ℕ
+  pub chains : ℕ
+  pub chunk : ℕ
+  pub stripe : ℕ
+
+pub record IsConfig (servers nodes chains chunk stripe : ℕ) : Type 0 where
+  pub servers_from : 1 ≤ servers
+  pub servers_to : servers ≤ 16
+  pub nodes_from : 1 ≤ nodes
+  pub nodes_to : nodes ≤ 16
+  pub chains_from : 1 ≤ chains
+  pub chains_to : chains ≤ 256
+  pub chunk_from : 1 ≤ chunk
+  pub chunk_to : chunk ≤ 4194304
+  pub stripe_from : 1 ≤ stripe
+  pub stripe_to : stripe ≤ chains
+
+-- what a scenario has that names none of them
+abbrev pub default_settings : Settings
+default_settings = record { servers = 1; nodes = 1; chains = 1; chunk = 1048576; stripe = 1 }

@@ -1,0 +1,4 @@
+pub mod Config
+pub mod Gives
+pub mod Names
+pub mod Paths

@@ -1,0 +1,43 @@
+use crate::ids::{ClientId, InodeId};
+use crate::items::Text;
+
+/// A path text, and the directory that it starts at unless it begins with `/`.
+#[derive(Debug, Drop)]
+pub struct Place {
+    pub base: InodeId,
+    pub text: Text,
+}
+
+/// A directory's default for the files made in it: chunk size in bytes, and number of chains to stripe over.
+///
+/// A call may name any numbers; `BadLayout` is the answer where they are out of range.
+#[derive(Clone, Copy, Debug, PartialEq, Eq)]
+pub struct DefaultLayout {
+    pub chunk: u32,
+    pub stripe: u16,
+}
+
+/// What a client asks of a server.
+#[derive(Debug, Drop)]
+pub enum Call {
+    /// What stands at a place. It changes nothing.
+    Lookup(Place),
+    /// Makes a directory. A mode is the twelve permission bits of POSIX, below 4,096.
+    Mkdir {
+        place: Place,
+        mode: u16,
+        layout: Option<DefaultLayout>,
+    },
+}
+
+/// A call as it comes to a server: who asks, by which of its own numbers (from 1), and at which time.
+///
+/// The stamp is below 2^53, in a unit that the clients agree on.
+#[derive(Debug, Drop)]
+pub struct Request {
+    pub server: u8,
+    pub client: ClientId,
+    pub number: u64,
+    pub stamp: u64,
+    pub call: Call,
+}

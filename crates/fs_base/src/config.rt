@@ -1,0 +1,119 @@
+ghost use Rattle.std.specs.Prelude.{◌≡◌, ◌↔◌, IsSome, IfSome};
+ghost use Rattle.fs_base.specs.Config.{IsConfig, default_settings};
+
+use std::marker::Model;
+
+/// The numbers of servers, storage nodes and replica chains, and the root's default layout.
+///
+/// Servers and nodes are 1 to 16, chains 1 to 256, the chunk 1 to 4,194,304 bytes, the stripe 1 to the chains.
+#[derive(Clone, Copy, Debug, PartialEq, Eq)]
+pub struct Config {
+    servers: u8,
+    nodes: u8,
+    chains: u16,
+    chunk: u32,
+    stripe: u16,
+}
+
+impl Model for Config {
+    ghost use Rattle.fs_base.specs.Config.{Settings, IsConfig};
+
+    ghost Value = { Settings };
+
+    ghost view = { λ c. record {
+      servers = c.servers;
+      nodes = c.nodes;
+      chains = c.chains;
+      chunk = c.chunk;
+      stripe = c.stripe;
+    } };
+
+    ghost invariant = { λ c. IsConfig c.servers c.nodes c.chains c.chunk c.stripe };
+
+    ghost inverse = { λ v. record {
+      servers = v.servers;
+      nodes = v.nodes;
+      chains = v.chains;
+      chunk = v.chunk;
+      stripe = v.stripe;
+    } };
+}
+
+impl Config {
+    /// `None` exactly where a number is out of its range.
+    pub fn new(servers: u8, nodes: u8, chains: u16, chunk: u32, stripe: u16) -> Option<Config>
+        ensures some { IsSome result ↔ IsConfig servers nodes chains chunk stripe }
+        ensures value { IfSome result (λ c. c ≡ record {
+          servers = servers;
+          nodes = nodes;
+          chains = chains;
+          chunk = chunk;
+          stripe = stripe;
+        }) }
+    {
+        if 1 <= servers
+            && servers <= 16
+            && 1 <= nodes
+            && nodes <= 16
+            && 1 <= chains
+            && chains <= 256
+            && 1 <= chunk
+            && chunk <= 4_194_304
+            && 1 <= stripe
+            && stripe <= chains
+        {
+            Some(Config {
+                servers,
+                nodes,
+                chains,
+                chunk,
+                stripe,
+            })
+        } else {
+            None
+        }
+    }
+
+    /// One server, node and chain, and chunks of 1 MiB.
+    pub fn single() -> Config
+        ensures { result ≡ default_settings }
+    {
+        Config {
+            servers: 1,
+            nodes: 1,
+            chains: 1,
+            chunk: 1_048_576,
+            stripe: 1,
+        }
+    }
+
+    pub fn servers(&self) -> u8
+        ensures value { result ≡ self.now.servers }
+    {
+        self.servers
+    }
+
+    pub fn nodes(&self) -> u8
+        ensures { result ≡ self.now.nodes }
+    {
+        self.nodes
+    }
+
+    pub fn chains(&self) -> u16
+        ensures { result ≡ self.now.chains }
+    {
+        self.chains
+    }
+
+    pub fn chunk(&self) -> u32
+        ensures { result ≡ self.now.chunk }
+    {
+        self.chunk
+    }
+
+    pub fn stripe(&self) -> u16
+        ensures { result ≡ self.now.stripe }
+    {
+        self.stripe
+    }
+}

@@ -1,0 +1,16 @@
+use crate::code::Code;
+use crate::ids::InodeId;
+
+/// What kind of inode it is.
+#[derive(Clone, Copy, Debug, PartialEq, Eq)]
+pub enum Kind {
+    Dir,
+}
+
+/// What a call is answered.
+#[derive(Clone, Copy, Debug, PartialEq, Eq)]
+pub enum Reply {
+    Made(InodeId),
+    Found(InodeId, Kind),
+    Refused(Code),
+}
