@@ -1,0 +1,6 @@
+//! The keys of the store, and their bytes.
+#![tactic(auto)]
+
+mod key;
+
+pub use key::{Key, one_key_each};

@@ -1,0 +1,118 @@
+-- What each call does to the tree, and its reply.
+use Rattle.std.specs.Prelude.{ℕ, ◌+◌, ◌*◌, ◌==◌, nat_le, ◌&&◌, Bool, true, if◌then◌else◌, List, Option, Some, None, Result, Ok, Err}
+use Rattle.std.specs.FinMap.{get, insert}
+use Rattle.fs_base.specs.declared.call.Call.TheVariants as calls
+use Rattle.fs_base.specs.declared.call.DefaultLayout.{DefaultLayout}
+use Rattle.fs_base.specs.declared.call.Request.{Request}
+use Rattle.fs_base.specs.declared.code.Code.{Code}
+use Rattle.fs_base.specs.declared.code.Code.TheVariants as codes
+use Rattle.fs_base.specs.declared.code.Limit.TheVariants.{Inodes}
+use Rattle.fs_base.specs.declared.config.Config.{Config}
+use Rattle.fs_base.specs.declared.path.Path.{Path}
+use Rattle.fs_base.specs.declared.reply.Reply.{Reply}
+use Rattle.fs_base.specs.declared.reply.Reply.TheVariants.{Made, Found, Refused}
+use Rattle.fs_base.specs.Paths.{path_of}
+use Rattle.tree_model.specs.declared.node.Node.{Node}
+use Rattle.tree_model.specs.declared.node.NodePart.{NodePart}
+use Rattle.tree_model.specs.declared.node.NodePart.TheVariants.{Dir}
+use Rattle.tree_model.specs.declared.walk.WalkEnd.TheVariants.{NoFollow, Parent}
+use Rattle.tree_model.specs.declared.walk.Walked.{Walked}
+use Rattle.tree_model.specs.declared.walk.Walked.TheVariants.{At, AtParent, NoName, Stopped}
+use Rattle.tree_model.specs.Tree.{Tree, next_at}
+use Rattle.tree_model.specs.Walk.{resolve}
+
+-- a call either leaves the tree and replies, or makes a new tree with its reply
+pub data Effect : Type 0 where
+  Leaves : (reply : Reply) → Effect
+  Makes : (tree : Tree) → (reply : Reply) → Effect
+
+abbrev pub refuses : Code → Effect
+refuses code = Leaves (Refused code)
+
+-- the words of a path come before anything that the tree says
+abbrev pub on_path : Result Path Code → (Path → Effect) → Effect
+on_path (Err code) effect = refuses code
+on_path (Ok path) effect = effect path
+
+-- ---- lookup: the last two don't come where a walk wants no parent
+
+abbrev pub found_at : Walked → Effect
+found_at (At id kind) = Leaves (Found id kind)
+found_at (Stopped code) = refuses code
+found_at (AtParent id name) = refuses codes.NotDir
+found_at (NoName id) = refuses codes.NotDir
+
+-- ---- mkdir
+
+-- the number-th inode of a server
+abbrev pub id_of : ℕ → ℕ → ℕ
+id_of number server = 16 * number + server
+
+-- a node, and the entry that leads to it
+abbrev pub with_child : Tree → ℕ → ℕ → List ℕ → Node → Tree
+with_child T server dir name node =
+    let number = next_at T.next server in
+    record T {
+      nodes = insert T.nodes (id_of number server) node;
+      entries = insert T.entries (dir, name) (id_of number server);
+      next = insert T.next server (number + 1);
+    }
+
+abbrev pub new_directory : ℕ → ℕ → DefaultLayout → Node
+new_directory mode stamp layout = record { mode = mode; owner = 0; group = 0; atime = stamp; mtime = stamp; ctime = stamp; part = Dir layout }
+
+-- the given default layout, else the parent's
+abbrev pub layout_or : Option DefaultLayout → DefaultLayout → DefaultLayout
+layout_or None parent = parent
+layout_or (Some given) parent = given
+
+-- a chunk of 1 to 4,194,304 bytes over 1 to all chains
+abbrev pub is_layout : Config → Option DefaultLayout → Bool
+is_layout C None = true
+is_layout C (Some l) = (nat_le 1 l.chunk && nat_le l.chunk 4194304) && (nat_le 1 l.stripe && nat_le l.stripe C.chains)
+
+-- the greatest number is never given out
+abbrev pub add_numbered : Tree → ℕ → ℕ → ℕ → ℕ → List ℕ → DefaultLayout → Effect
+add_numbered T server mode stamp dir name layout =
+    if next_at T.next server == 4294967295
+    then refuses (codes.AtLimit Inodes)
+    else Makes (with_child T server dir name (new_directory mode stamp layout)) (Made (id_of (next_at T.next server) server))
+
+abbrev pub default_of : NodePart → DefaultLayout
+default_of (Dir layout) = layout
+
+abbrev pub add_child : Tree → ℕ → ℕ → ℕ → ℕ → List ℕ → Option DefaultLayout → Option Node → Effect
+add_child T server mode stamp dir name given None = refuses codes.NotDir
+add_child T server mode stamp dir name given (Some parent) = add_numbered T server mode stamp dir name (layout_or given (default_of parent.part))
+
+abbrev pub unless_there : Option ℕ → Effect → Effect
+unless_there None effect = effect
+unless_there (Some id) effect = refuses codes.Exists
+
+-- a path without a name says Exists, as does a name that is taken
+abbrev pub make_at : Tree → ℕ → ℕ → ℕ → Option DefaultLayout → Walked → Effect
+make_at T server mode stamp given (At id kind) = refuses codes.Exists
+make_at T server mode stamp given (NoName id) = refuses codes.Exists
+make_at T server mode stamp given (Stopped code) = refuses code
+make_at T server mode stamp given (AtParent dir name) =
+    unless_there (get T.entries (dir, name)) (add_child T server mode stamp dir name given (get T.nodes dir))
+
+-- ---- the table
+
+abbrev pub effect : Config → Tree → Request → Effect
+effect C T q =
+    elim (q.call) [
+      | calls.Lookup place ↦ on_path (path_of place.text) (λ path. found_at (resolve T place.base path NoFollow))
+      | calls.Mkdir place mode layout ↦ on_path (path_of place.text) (λ path.
+          if is_layout C layout
+          then make_at T q.server mode q.stamp layout (resolve T place.base path Parent)
+          else refuses codes.BadLayout)
+    ]
+
+abbrev pub settle : Tree → Effect → Tree × Reply
+settle T (Leaves reply) = (T, reply)
+settle T (Makes new reply) = (new, reply)
+
+-- the tree and the reply after a request
+unfoldable pub apply : Config → Tree → Request → Tree × Reply
+apply C T q = settle T (effect C T q)

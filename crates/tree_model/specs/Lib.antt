@@ -1,0 +1,5 @@
+pub mod Calls
+pub mod Making
+pub mod Maps
+pub mod Tree
+pub mod Walk

@@ -1,0 +1,32 @@
+-- The plain file tree: no keys, no parents, no link counts.
+use Rattle.std.specs.Prelude.{ℕ}
+use Rattle.std.specs.Option.{unwrap_or}
+use Rattle.std.specs.Ordering.{nat_cmp}
+use Rattle.std.specs.FinMap.{FinMap, empty, get, insert}
+use Rattle.fs_base.specs.declared.config.Config.{Config}
+use Rattle.tree_model.specs.declared.node.Node.{Node}
+use Rattle.tree_model.specs.declared.node.NodePart.TheVariants.{Dir}
+use Rattle.tree_model.specs.Maps.{dent_cmp}
+
+pub record Tree : Type 0 where
+  -- by id
+  pub nodes : FinMap nat_cmp Node
+  -- by directory and name, the id that the entry leads to
+  pub entries : FinMap dent_cmp ℕ
+  -- by server, its next number, where it has given one
+  pub next : FinMap nat_cmp ℕ
+
+-- a tree and the configuration that it is served by
+pub record Served : Type 0 where
+  pub config : Config
+  pub tree : Tree
+
+-- a server's next number, 1 at first
+abbrev pub next_at : FinMap nat_cmp ℕ → ℕ → ℕ
+next_at next server = unwrap_or (get next server) 1
+
+abbrev pub root_of : Config → Node
+root_of C = record { mode = 493; owner = 0; group = 0; atime = 0; mtime = 0; ctime = 0; part = Dir (record { chunk = C.chunk; stripe = C.stripe }) }
+
+abbrev pub new_tree : Config → Tree
+new_tree C = record { nodes = insert empty 0 (root_of C); entries = empty; next = empty }

@@ -1,0 +1,228 @@
+ghost use Rattle.std.specs.Prelude.{◌≡◌, ◌<◌, IfOk, OnOk, OnErr, if◌then◌else◌};
+ghost use Rattle.std.specs.FinMap.{get};
+ghost use Rattle.fs_base.specs.Paths.{path_of};
+ghost use Rattle.fs_base.specs.declared.code.Code.TheVariants.{BadLayout};
+ghost use Rattle.tree_model.specs.Calls.{is_layout, layout_or, unless_there, add_child, make_at, refuses, on_path, settle};
+ghost use Rattle.tree_model.specs.Making.{IsPlan, added};
+ghost use Rattle.tree_model.specs.Walk.{resolve};
+ghost use Rattle.tree_model.specs.declared.walk.WalkEnd.TheVariants.{Parent};
+
+use crate::node::{Node, NodePart};
+use crate::tree::Tree;
+use crate::walk::{WalkEnd, Walked};
+use fs_base::{
+    Code, Config, DefaultLayout, InodeId, Limit, Memory, Name, Path, PathError, Place, Reply,
+    Request,
+};
+use std::alloc::Global;
+
+/// A new node with its entry, and the number that its server gave.
+#[derive(Drop)]
+pub struct Child {
+    pub key: (u64, Name),
+    pub number: u32,
+    pub id: InodeId,
+    pub node: Node,
+}
+
+/// What a call is to do.
+#[derive(Drop)]
+pub enum Plan {
+    Refuse(Code),
+    Add(Child),
+}
+
+fn is_layout(config: &Config, given: Option<DefaultLayout>) -> bool
+    ensures { result ≡ is_layout config.now given }
+{
+    match given {
+        None => true,
+        Some(layout) => {
+            (1 <= layout.chunk && layout.chunk <= 4_194_304)
+                && (1 <= layout.stripe && layout.stripe <= config.chains())
+        }
+    }
+}
+
+fn layout_or(given: Option<DefaultLayout>, parent: DefaultLayout) -> DefaultLayout
+    ensures { result ≡ layout_or given parent }
+{
+    match given {
+        None => parent,
+        Some(layout) => layout,
+    }
+}
+
+impl Tree {
+    /// A new directory under this name, where nothing stands there.
+    fn plan_child(
+        &self,
+        server: u8,
+        stamp: u64,
+        mode: u16,
+        given: Option<DefaultLayout>,
+        key: (u64, Name),
+    ) -> Plan
+        requires { server < 16 }
+        ensures { IsPlan self.now.tree server
+            (unless_there (get self.now.tree.entries key) (add_child self.now.tree server mode stamp key.0 key.1 given (get self.now.tree.nodes key.0)))
+            result }
+    {
+        if self.entry(&key).is_some() {
+            return Plan::Refuse(Code::Exists);
+        }
+        let Some(parent) = self.node(key.0) else {
+            return Plan::Refuse(Code::NotDir);
+        };
+        let NodePart::Dir { layout } = parent.part;
+        let number = self.next_number(server);
+        if number == u32::MAX {
+            return Plan::Refuse(Code::AtLimit(Limit::Inodes));
+        }
+        let id = InodeId::new(16 * u64::from(number) + u64::from(server));
+        let node = Node {
+            mode,
+            owner: 0,
+            group: 0,
+            atime: stamp,
+            mtime: stamp,
+            ctime: stamp,
+            part: NodePart::Dir {
+                layout: layout_or(given, layout),
+            },
+        };
+        Plan::Add(Child {
+            key,
+            number,
+            id,
+            node,
+        })
+    }
+
+    fn plan_at(
+        &self,
+        server: u8,
+        stamp: u64,
+        mode: u16,
+        given: Option<DefaultLayout>,
+        walked: Walked,
+    ) -> Plan
+        requires { server < 16 }
+        ensures { IsPlan self.now.tree server (make_at self.now.tree server mode stamp given walked) result }
+    {
+        match walked {
+            Walked::At(_, _) => Plan::Refuse(Code::Exists),
+            Walked::NoName(_) => Plan::Refuse(Code::Exists),
+            Walked::Stopped(code) => Plan::Refuse(code),
+            Walked::AtParent(dir, name) => {
+                self.plan_child(server, stamp, mode, given, (dir.get(), name))
+            }
+        }
+    }
+
+    fn plan_path(
+        &self,
+        alloc: Global,
+        request: &Request,
+        base: InodeId,
+        path: &Path,
+        mode: u16,
+        given: Option<DefaultLayout>,
+    ) -> Result<Plan, Memory>
+        requires { request.now.server < 16 }
+        ensures { IfOk result (IsPlan self.now.tree request.now.server
+            (if is_layout self.now.config given
+            then make_at self.now.tree request.now.server mode request.now.stamp given (resolve self.now.tree base path.now Parent)
+            else refuses BadLayout)) }
+    {
+        if !is_layout(&self.config, given) {
+            return Ok(Plan::Refuse(Code::BadLayout));
+        }
+        let walked = self.resolve(alloc, base, path, WalkEnd::Parent)?;
+        Ok(self.plan_at(request.server, request.stamp, mode, given, walked))
+    }
+
+    fn plan_mkdir(
+        &self,
+        alloc: Global,
+        request: &Request,
+        place: &Place,
+        mode: u16,
+        given: Option<DefaultLayout>,
+    ) -> Result<Plan, Memory>
+        requires { request.now.server < 16 }
+        ensures { IfOk result (IsPlan self.now.tree request.now.server
+            (on_path (path_of place.now.text) (λ path.
+            if is_layout self.now.config given
+            then make_at self.now.tree request.now.server mode request.now.stamp given (resolve self.now.tree place.now.base path Parent)
+            else refuses BadLayout))) }
+    {
+        match Path::read(alloc, place.text.as_slice()) {
+            Ok(path) => self.plan_path(alloc, request, place.base, &path, mode, given),
+            Err(PathError::BadPath) => Ok(Plan::Refuse(Code::BadPath)),
+            Err(PathError::BadName) => Ok(Plan::Refuse(Code::BadName)),
+            Err(PathError::Memory) => Err(Memory),
+        }
+    }
+
+    /// Puts a child in, all or nothing.
+    #[tactic(auto, using(crate::proofs::Undo::there_by_id, crate::proofs::Undo::undone_by_id))]
+    fn add(&mut self, server: u8, child: Child) -> Result<(), Memory>
+        requires { child.number < 4294967295 }
+        ensures ok { OnOk result (self.new.tree ≡ added self.old.tree server child) }
+        ensures config { self.new.config ≡ self.old.config }
+        ensures err { OnErr result (self.new ≡ self.old) }
+    {
+        let Child {
+            key,
+            number,
+            id,
+            node,
+        } = child;
+        let server = u64::from(server);
+        let next = self.next.insert(server, number + 1)?;
+        let was = match self.nodes.insert(id.get(), node) {
+            Ok(before) => before,
+            Err(e) => {
+                self.next.put_back(server, next);
+                return Err(e);
+            }
+        };
+        match self.entries.insert(key, id) {
+            Ok(_) => Ok(()),
+            Err(e) => {
+                self.nodes.put_back(id.get(), was);
+                self.next.put_back(server, next);
+                Err(e)
+            }
+        }
+    }
+
+    pub(crate) fn mkdir(
+        &mut self,
+        alloc: Global,
+        request: &Request,
+        place: &Place,
+        mode: u16,
+        given: Option<DefaultLayout>,
+    ) -> Result<Reply, Memory>
+        requires { request.now.server < 16 }
+        ensures ok { IfOk result (λ reply. settle self.old.tree
+            (on_path (path_of place.now.text) (λ path.
+            if is_layout self.old.config given
+            then make_at self.old.tree request.now.server mode request.now.stamp given (resolve self.old.tree place.now.base path Parent)
+            else refuses BadLayout))
+            ≡ (self.new.tree, reply)) }
+        ensures config { self.new.config ≡ self.old.config }
+        ensures err { OnErr result (self.new ≡ self.old) }
+    {
+        match self.plan_mkdir(alloc, request, place, mode, given)? {
+            Plan::Refuse(code) => Ok(Reply::Refused(code)),
+            Plan::Add(child) => {
+                let reply = Reply::Made(child.id);
+                self.add(request.server, child)?;
+                Ok(reply)
+            }
+        }
+    }
+}

@@ -1,0 +1,122 @@
+ghost use Rattle.std.specs.Prelude.{◌≡◌, None, IsSome, IfOk, OnOk, OnErr};
+ghost use Rattle.std.specs.Option.{option_copied};
+ghost use Rattle.std.specs.FinMap as map;
+ghost use Rattle.tree_model.specs.Maps.{set};
+
+use fs_base::{Memory, Name};
+use std::alloc::Global;
+use std::collections::BTreeMap;
+use std::marker::Model;
+
+/// A map from numbers: ids of inodes, or servers.
+#[derive(Drop)]
+pub struct ByNumber<V> {
+    pairs: BTreeMap<u64, V>,
+}
+
+impl<V> Model for ByNumber<V> {
+    ghost use Rattle.std.specs.Ordering.{nat_cmp};
+    ghost use Rattle.std.specs.FinMap as map;
+    ghost use Rattle.std.specs.Coded.{coded_ℕ};
+
+    ghost Value = { map.FinMap nat_cmp V };
+
+    ghost coded = { map.code coded_ℕ V.code };
+
+    ghost view = { λ a. map.from_entries a.pairs.entries };
+}
+
+impl<V> ByNumber<V> {
+    pub fn new(alloc: Global) -> ByNumber<V>
+        ensures { result ≡ map.empty }
+    {
+        ByNumber {
+            pairs: BTreeMap::new(alloc),
+        }
+    }
+
+    pub fn get(&self, key: u64) -> Option<&V>
+        ensures { option_copied result ≡ map.get self.now key }
+    {
+        self.pairs.get(&key)
+    }
+}
+
+impl<V: Drop> ByNumber<V> {
+    /// Gives the key this value, and gives back the one before. Only a key without a value takes memory.
+    pub fn insert(&mut self, key: u64, value: V) -> Result<Option<V>, Memory>
+        ensures before { IfOk result (λ before. before ≡ map.get self.old key) }
+        ensures ok { OnOk result (self.new ≡ map.insert self.old key value) }
+        ensures err { OnErr result (self.new ≡ self.old) }
+        ensures absent { OnErr result (map.get self.old key ≡ None) }
+    {
+        Ok(self.pairs.insert(key, value)?)
+    }
+
+    fn remove(&mut self, key: u64)
+        ensures { self.new ≡ map.remove self.old key }
+    {
+        self.pairs.remove(&key);
+    }
+
+    /// Gives a key that has a value this value, or none. It takes no memory.
+    pub fn put_back(&mut self, key: u64, before: Option<V>)
+        requires { IsSome (map.get self.old key) }
+        ensures { self.new ≡ set self.old key before }
+    {
+        match before {
+            Some(value) => {
+                if self.insert(key, value).is_err() {
+                    unreachable!()
+                }
+            }
+            None => self.remove(key),
+        }
+    }
+}
+
+/// A map from entries: the number of a directory, and a name in it.
+#[derive(Drop)]
+pub struct ByName<V> {
+    pairs: BTreeMap<(u64, Name), V>,
+}
+
+impl<V> Model for ByName<V> {
+    ghost use Rattle.std.specs.Prelude.{ℕ, List};
+    ghost use Rattle.std.specs.FinMap as map;
+    ghost use Rattle.std.specs.Coded.{coded_ℕ, coded_list, coded×};
+    ghost use Rattle.tree_model.specs.Maps.{dent_cmp};
+
+    ghost Value = { map.FinMap dent_cmp V };
+
+    ghost coded = { map.code (coded× coded_ℕ (coded_list coded_ℕ)) V.code };
+
+    ghost view = { λ a. map.from_entries a.pairs.entries };
+}
+
+impl<V> ByName<V> {
+    pub fn new(alloc: Global) -> ByName<V>
+        ensures { result ≡ map.empty }
+    {
+        ByName {
+            pairs: BTreeMap::new(alloc),
+        }
+    }
+
+    pub fn get(&self, key: &(u64, Name)) -> Option<&V>
+        ensures { option_copied result ≡ map.get self.now key.now }
+    {
+        self.pairs.get(key)
+    }
+}
+
+impl<V: Drop> ByName<V> {
+    /// Gives the key this value, and gives back the one before.
+    pub fn insert(&mut self, key: (u64, Name), value: V) -> Result<Option<V>, Memory>
+        ensures before { IfOk result (λ before. before ≡ map.get self.old key) }
+        ensures ok { OnOk result (self.new ≡ map.insert self.old key value) }
+        ensures err { OnErr result (self.new ≡ self.old) }
+    {
+        Ok(self.pairs.insert(key, value)?)
+    }
+}

@@ -1,0 +1,92 @@
+ghost use Rattle.std.specs.Prelude.{◌≡◌, IfOk};
+ghost use Rattle.std.specs.FinMap.{get};
+ghost use Rattle.tree_model.specs.Walk.{ends_at, is_last_of_parent, down, resolve};
+
+use crate::tree::Tree;
+use fs_base::{Code, InodeId, Kind, Memory, Name, Path};
+use std::alloc::Global;
+
+/// What a call wants of a walk: the node at its end, or the directory that holds the last name.
+#[derive(Clone, Copy, Debug, PartialEq, Eq)]
+pub enum WalkEnd {
+    NoFollow,
+    Parent,
+}
+
+/// What a walk comes to.
+#[derive(Debug, Drop)]
+pub enum Walked {
+    At(InodeId, Kind),
+    AtParent(InodeId, Name),
+    NoName(InodeId),
+    Stopped(Code),
+}
+
+fn ends_at(end: WalkEnd, here: InodeId) -> Walked
+    ensures { result ≡ ends_at end here }
+{
+    match end {
+        WalkEnd::NoFollow => Walked::At(here, Kind::Dir),
+        WalkEnd::Parent => Walked::NoName(here),
+    }
+}
+
+fn is_last_of_parent(end: WalkEnd, names: &[Name]) -> bool
+    ensures { result ≡ is_last_of_parent end names.now }
+{
+    match end {
+        WalkEnd::NoFollow => false,
+        WalkEnd::Parent => names.is_empty(),
+    }
+}
+
+impl Tree {
+    /// Down one entry for each name.
+    #[tactic(auto, unfolding(crate::specs::Walk::down))]
+    fn down(
+        &self,
+        alloc: Global,
+        end: WalkEnd,
+        names: &[Name],
+        start: InodeId,
+    ) -> Result<Walked, Memory>
+        ensures { IfOk result (λ walked. walked ≡ down self.now.tree end names.now start) }
+    {
+        let mut here = start;
+        for (i, name) in names.iter().enumerate() {
+            if self.node(here.get()).is_none() {
+                return Ok(Walked::Stopped(Code::NotDir));
+            }
+            let name = name.try_clone(alloc)?;
+            if is_last_of_parent(end, &names[i + 1..]) {
+                return Ok(Walked::AtParent(here, name));
+            }
+            let Some(id) = self.entry(&(here.get(), name)) else {
+                return Ok(Walked::Stopped(Code::NotFound));
+            };
+            here = id;
+        }
+        Ok(ends_at(end, here))
+    }
+
+    /// Where a path leads from a base.
+    #[tactic(auto, unfolding(crate::specs::Walk::resolve))]
+    pub(crate) fn resolve(
+        &self,
+        alloc: Global,
+        base: InodeId,
+        path: &Path,
+        end: WalkEnd,
+    ) -> Result<Walked, Memory>
+        ensures { IfOk result (λ walked. walked ≡ resolve self.now.tree base path.now end) }
+    {
+        let names = path.names.as_slice();
+        if path.absolute || base.get() == 0 {
+            return self.down(alloc, end, names, InodeId::root());
+        }
+        if self.node(base.get()).is_none() {
+            return Ok(Walked::Stopped(Code::NotFound));
+        }
+        self.down(alloc, end, names, base)
+    }
+}
