@@ -1,5 +1,6 @@
 -- A configuration, as contracts see it, and its limits.
-use Rattle.std.specs.Prelude.{ℕ, ◌≤◌}
+use Rattle.std.specs.Prelude.{ℕ, ◌≤◌, nat_le, ◌&&◌, Bool}
+use Rattle.fs_base.specs.declared.call.DefaultLayout.{DefaultLayout}
 
 pub record Settings : Type 0 where
   pub servers : ℕ
@@ -23,3 +24,7 @@ pub record IsConfig (servers nodes chains chunk stripe : ℕ) : Type 0 where
 -- what a scenario has that names none of them
 abbrev pub default_settings : Settings
 default_settings = record { servers = 1; nodes = 1; chains = 1; chunk = 1048576; stripe = 1 }
+
+-- a directory's default: a chunk of 1 to 4,194,304 bytes over 1 to all chains
+abbrev pub admits : Settings → DefaultLayout → Bool
+admits settings layout = (nat_le 1 layout.chunk && nat_le layout.chunk 4194304) && (nat_le 1 layout.stripe && nat_le layout.stripe settings.chains)

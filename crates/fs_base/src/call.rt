@@ -1,11 +1,26 @@
+ghost use Rattle.std.specs.Prelude.{◌≡◌, ◌<◌, ◌^◌, IfOk};
+
 use crate::ids::{ClientId, InodeId};
 use crate::items::Text;
+use crate::memory::Memory;
+use std::alloc::Global;
 
 /// A path text, and the directory that it starts at unless it begins with `/`.
 #[derive(Debug, Drop)]
 pub struct Place {
     pub base: InodeId,
     pub text: Text,
+}
+
+impl Place {
+    pub fn try_clone(&self, alloc: Global) -> Result<Place, Memory>
+        ensures copy { IfOk result (λ place. place ≡ self.now) }
+        ensures base { self.now.base < 2 ^ 36 }
+    {
+        let base = InodeId::new(self.base.get());
+        let text = Text::from_slice(alloc, self.text.as_slice())?;
+        Ok(Place { base, text })
+    }
 }
 
 /// A directory's default for the files made in it: chunk size in bytes, and number of chains to stripe over.

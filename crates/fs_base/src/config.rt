@@ -1,6 +1,7 @@
 ghost use Rattle.std.specs.Prelude.{◌≡◌, ◌↔◌, IsSome, IfSome};
-ghost use Rattle.fs_base.specs.Config.{IsConfig, default_settings};
+ghost use Rattle.fs_base.specs.Config.{IsConfig, default_settings, admits};
 
+use crate::call::DefaultLayout;
 use std::marker::Model;
 
 /// The numbers of servers, storage nodes and replica chains, and the root's default layout.
@@ -88,7 +89,7 @@ impl Config {
     }
 
     pub fn servers(&self) -> u8
-        ensures value { result ≡ self.now.servers }
+        ensures { result ≡ self.now.servers }
     {
         self.servers
     }
@@ -115,5 +116,13 @@ impl Config {
         ensures { result ≡ self.now.stripe }
     {
         self.stripe
+    }
+
+    /// Whether a directory may have this default: else `BadLayout`.
+    pub fn admits(&self, layout: DefaultLayout) -> bool
+        ensures { result ≡ admits self.now layout }
+    {
+        (1 <= layout.chunk && layout.chunk <= 4_194_304)
+            && (1 <= layout.stripe && layout.stripe <= self.chains)
     }
 }

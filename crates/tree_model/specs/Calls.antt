@@ -1,5 +1,5 @@
 -- What each call does to the tree, and its reply.
-use Rattle.std.specs.Prelude.{ℕ, ◌+◌, ◌*◌, ◌==◌, nat_le, ◌&&◌, Bool, true, if◌then◌else◌, List, Option, Some, None, Result, Ok, Err}
+use Rattle.std.specs.Prelude.{ℕ, ◌+◌, ◌*◌, ◌==◌, Bool, true, if◌then◌else◌, List, Option, Some, None, unwrap_or, Result, Ok, Err}
 use Rattle.std.specs.FinMap.{get, insert}
 use Rattle.fs_base.specs.declared.call.Call.TheVariants as calls
 use Rattle.fs_base.specs.declared.call.DefaultLayout.{DefaultLayout}
@@ -11,6 +11,7 @@ use Rattle.fs_base.specs.declared.config.Config.{Config}
 use Rattle.fs_base.specs.declared.path.Path.{Path}
 use Rattle.fs_base.specs.declared.reply.Reply.{Reply}
 use Rattle.fs_base.specs.declared.reply.Reply.TheVariants.{Made, Found, Refused}
+use Rattle.fs_base.specs.Config.{admits}
 use Rattle.fs_base.specs.Paths.{path_of}
 use Rattle.tree_model.specs.declared.node.Node.{Node}
 use Rattle.tree_model.specs.declared.node.NodePart.{NodePart}
@@ -61,15 +62,10 @@ with_child T server dir name node =
 abbrev pub new_directory : ℕ → ℕ → DefaultLayout → Node
 new_directory mode stamp layout = record { mode = mode; owner = 0; group = 0; atime = stamp; mtime = stamp; ctime = stamp; part = Dir layout }
 
--- the given default layout, else the parent's
-abbrev pub layout_or : Option DefaultLayout → DefaultLayout → DefaultLayout
-layout_or None parent = parent
-layout_or (Some given) parent = given
-
--- a chunk of 1 to 4,194,304 bytes over 1 to all chains
+-- a given default layout is looked at before the tree
 abbrev pub is_layout : Config → Option DefaultLayout → Bool
 is_layout C None = true
-is_layout C (Some l) = (nat_le 1 l.chunk && nat_le l.chunk 4194304) && (nat_le 1 l.stripe && nat_le l.stripe C.chains)
+is_layout C (Some given) = admits C given
 
 -- the greatest number is never given out
 abbrev pub add_numbered : Tree → ℕ → ℕ → ℕ → ℕ → List ℕ → DefaultLayout → Effect
@@ -81,9 +77,10 @@ add_numbered T server mode stamp dir name layout =
 abbrev pub default_of : NodePart → DefaultLayout
 default_of (Dir layout) = layout
 
+-- the given default layout, else the parent's
 abbrev pub add_child : Tree → ℕ → ℕ → ℕ → ℕ → List ℕ → Option DefaultLayout → Option Node → Effect
 add_child T server mode stamp dir name given None = refuses codes.NotDir
-add_child T server mode stamp dir name given (Some parent) = add_numbered T server mode stamp dir name (layout_or given (default_of parent.part))
+add_child T server mode stamp dir name given (Some parent) = add_numbered T server mode stamp dir name (unwrap_or given (default_of parent.part))
 
 abbrev pub unless_there : Option ℕ → Effect → Effect
 unless_there None effect = effect

@@ -2,7 +2,7 @@ ghost use Rattle.std.specs.Prelude.{◌≡◌, ◌<◌, IfOk, OnOk, OnErr, if◌
 ghost use Rattle.std.specs.FinMap.{get};
 ghost use Rattle.fs_base.specs.Paths.{path_of};
 ghost use Rattle.fs_base.specs.declared.code.Code.TheVariants.{BadLayout};
-ghost use Rattle.tree_model.specs.Calls.{is_layout, layout_or, unless_there, add_child, make_at, refuses, on_path, settle};
+ghost use Rattle.tree_model.specs.Calls.{is_layout, unless_there, add_child, make_at, refuses, on_path, settle};
 ghost use Rattle.tree_model.specs.Making.{IsPlan, added};
 ghost use Rattle.tree_model.specs.Walk.{resolve};
 ghost use Rattle.tree_model.specs.declared.walk.WalkEnd.TheVariants.{Parent};
@@ -37,19 +37,7 @@ fn is_layout(config: &Config, given: Option<DefaultLayout>) -> bool
 {
     match given {
         None => true,
-        Some(layout) => {
-            (1 <= layout.chunk && layout.chunk <= 4_194_304)
-                && (1 <= layout.stripe && layout.stripe <= config.chains())
-        }
-    }
-}
-
-fn layout_or(given: Option<DefaultLayout>, parent: DefaultLayout) -> DefaultLayout
-    ensures { result ≡ layout_or given parent }
-{
-    match given {
-        None => parent,
-        Some(layout) => layout,
+        Some(layout) => config.admits(layout),
     }
 }
 
@@ -88,7 +76,7 @@ impl Tree {
             mtime: stamp,
             ctime: stamp,
             part: NodePart::Dir {
-                layout: layout_or(given, layout),
+                layout: given.unwrap_or(layout),
             },
         };
         Plan::Add(Child {

@@ -1,0 +1,10 @@
+//! The program `fs3meta`: steps a scenario, and writes the replies.
+#![tactic(auto)]
+
+mod rows;
+
+use std::process::ExitCode;
+
+fn main(_rt: HostRuntime) -> ExitCode {
+    ExitCode::from(0)
+}
