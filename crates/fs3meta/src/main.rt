@@ -1,7 +1,9 @@
 //! The program `fs3meta`: steps a scenario, and writes the replies.
 #![tactic(auto)]
 
+mod decide;
 mod rows;
+mod serve;
 
 use std::process::ExitCode;
 

@@ -1,6 +1,7 @@
 -- What each call does to the tree, and its reply.
 use Rattle.std.specs.Prelude.{ℕ, ◌+◌, ◌*◌, ◌==◌, Bool, true, if◌then◌else◌, List, Option, Some, None, unwrap_or, Result, Ok, Err}
 use Rattle.std.specs.FinMap.{get, insert}
+use Rattle.fs_base.specs.declared.call.Call.{Call}
 use Rattle.fs_base.specs.declared.call.Call.TheVariants as calls
 use Rattle.fs_base.specs.declared.call.DefaultLayout.{DefaultLayout}
 use Rattle.fs_base.specs.declared.call.Request.{Request}
@@ -96,15 +97,15 @@ make_at T server mode stamp given (AtParent dir name) =
 
 -- ---- the table
 
+abbrev pub effect_of : Config → Tree → Request → Call → Effect
+effect_of C T q (calls.Lookup place) = on_path (path_of place.text) (λ path. found_at (resolve T place.base path NoFollow))
+effect_of C T q (calls.Mkdir place mode layout) = on_path (path_of place.text) (λ path.
+    if is_layout C layout
+    then make_at T q.server mode q.stamp layout (resolve T place.base path Parent)
+    else refuses codes.BadLayout)
+
 abbrev pub effect : Config → Tree → Request → Effect
-effect C T q =
-    elim (q.call) [
-      | calls.Lookup place ↦ on_path (path_of place.text) (λ path. found_at (resolve T place.base path NoFollow))
-      | calls.Mkdir place mode layout ↦ on_path (path_of place.text) (λ path.
-          if is_layout C layout
-          then make_at T q.server mode q.stamp layout (resolve T place.base path Parent)
-          else refuses codes.BadLayout)
-    ]
+effect C T q = effect_of C T q q.call
 
 abbrev pub settle : Tree → Effect → Tree × Reply
 settle T (Leaves reply) = (T, reply)

@@ -1,0 +1,274 @@
+ghost use Rattle.std.specs.Prelude.{◌≡◌, ◌<◌, IfOk, if◌then◌else◌};
+ghost use Rattle.fs_base.specs.Paths.{path_of};
+ghost use Rattle.fs_base.specs.declared.code.Code.TheVariants.{BadLayout};
+ghost use Rattle.fs3meta.specs.Decide.{rows_down, rows_resolve, refused, decide, decide_path, decide_found, decide_child, decide_make};
+ghost use Rattle.fs3meta.specs.Rows.{inode_row};
+ghost use Rattle.tree_model.specs.Calls.{is_layout};
+ghost use Rattle.tree_model.specs.Walk.{ends_at, is_last_of_parent};
+ghost use Rattle.tree_model.specs.declared.walk.WalkEnd.TheVariants.{NoFollow, Parent};
+
+use crate::rows::Rows;
+use fs_base::{
+    Call, Code, Config, DefaultLayout, InodeId, Kind, Limit, Memory, Name, Path, PathError, Place,
+    Reply, Request,
+};
+use std::alloc::Global;
+use tree_model::{Node, NodePart, WalkEnd, Walked};
+
+/// A new directory under a name, and the number that its server gives after it.
+#[derive(Debug, Drop)]
+pub struct Child {
+    pub dir: InodeId,
+    pub name: Name,
+    pub id: InodeId,
+    pub node: Node,
+    pub next: u32,
+}
+
+/// What is to be done for a request.
+#[derive(Debug, Drop)]
+pub enum Decision {
+    Answer(Reply),
+    Make(Child),
+}
+
+fn refused(code: Code) -> Decision
+    ensures { result ≡ refused code }
+{
+    Decision::Answer(Reply::Refused(code))
+}
+
+fn ends_at(end: WalkEnd, here: InodeId) -> Walked
+    ensures { result ≡ ends_at end here }
+{
+    match end {
+        WalkEnd::NoFollow => Walked::At(here, Kind::Dir),
+        WalkEnd::Parent => Walked::NoName(here),
+    }
+}
+
+fn is_last_of_parent(end: WalkEnd, names: &[Name]) -> bool
+    ensures { result ≡ is_last_of_parent end names.now }
+{
+    match end {
+        WalkEnd::NoFollow => false,
+        WalkEnd::Parent => names.is_empty(),
+    }
+}
+
+/// Down one entry for each name, by keys.
+#[tactic(auto, unfolding(crate::specs::Decide::rows_down))]
+fn down(
+    alloc: Global,
+    rows: &Rows,
+    end: WalkEnd,
+    names: &[Name],
+    start: InodeId,
+) -> Result<Walked, Memory>
+    ensures { IfOk result (λ walked. walked ≡ rows_down rows.now end names.now start) }
+{
+    let mut here = start;
+    for (i, name) in names.iter().enumerate() {
+        if rows.inode(alloc, here)?.is_none() {
+            return Ok(Walked::Stopped(Code::NotDir));
+        }
+        if is_last_of_parent(end, &names[i + 1..]) {
+            return Ok(Walked::AtParent(here, name.try_clone(alloc)?));
+        }
+        let Some(id) = rows.target(alloc, here, name)? else {
+            return Ok(Walked::Stopped(Code::NotFound));
+        };
+        here = id;
+    }
+    Ok(ends_at(end, here))
+}
+
+/// Where a path leads from a base.
+#[tactic(auto, unfolding(crate::specs::Decide::rows_resolve))]
+fn resolve(
+    alloc: Global,
+    rows: &Rows,
+    base: InodeId,
+    path: &Path,
+    end: WalkEnd,
+) -> Result<Walked, Memory>
+    ensures { IfOk result (λ walked. walked ≡ rows_resolve rows.now base path.now end) }
+{
+    let names = path.names.as_slice();
+    if path.absolute || base.get() == 0 {
+        return down(alloc, rows, end, names, InodeId::root());
+    }
+    if rows.inode(alloc, base)?.is_none() {
+        return Ok(Walked::Stopped(Code::NotFound));
+    }
+    down(alloc, rows, end, names, base)
+}
+
+fn found(walked: Walked) -> Decision
+    ensures { result ≡ decide_found walked }
+{
+    match walked {
+        Walked::At(id, kind) => Decision::Answer(Reply::Found(id, kind)),
+        Walked::Stopped(code) => refused(code),
+        Walked::AtParent(_, _) => refused(Code::NotDir),
+        Walked::NoName(_) => refused(Code::NotDir),
+    }
+}
+
+fn decide_lookup(alloc: Global, rows: &Rows, place: &Place) -> Result<Decision, Memory>
+    ensures { IfOk result (λ decision. decision ≡
+        decide_path (path_of place.now.text) (λ path. decide_found (rows_resolve rows.now place.now.base path NoFollow))) }
+{
+    match Path::read(alloc, place.text.as_slice()) {
+        Ok(path) => {
+            let walked = resolve(alloc, rows, place.base, &path, WalkEnd::NoFollow)?;
+            Ok(found(walked))
+        }
+        Err(PathError::BadPath) => Ok(refused(Code::BadPath)),
+        Err(PathError::BadName) => Ok(refused(Code::BadName)),
+        Err(PathError::Memory) => Err(Memory),
+    }
+}
+
+/// A new directory in one that is there.
+fn decide_child(
+    alloc: Global,
+    rows: &Rows,
+    request: &Request,
+    mode: u16,
+    given: Option<DefaultLayout>,
+    dir: InodeId,
+    name: Name,
+) -> Result<Decision, Memory>
+    requires { request.now.server < 16 }
+    ensures { IfOk result (λ decision. decision ≡
+        decide_child rows.now request.now mode given dir name (inode_row rows.now dir)) }
+{
+    let Some(parent) = rows.inode(alloc, dir)? else {
+        return Ok(refused(Code::NotDir));
+    };
+    let NodePart::Dir { layout } = parent.part;
+    let number = rows.number(alloc, request.server)?;
+    if number == u32::MAX {
+        return Ok(refused(Code::AtLimit(Limit::Inodes)));
+    }
+    let stamp = request.stamp;
+    let node = Node {
+        mode,
+        owner: 0,
+        group: 0,
+        atime: stamp,
+        mtime: stamp,
+        ctime: stamp,
+        part: NodePart::Dir {
+            layout: given.unwrap_or(layout),
+        },
+    };
+    Ok(Decision::Make(Child {
+        dir,
+        name,
+        id: InodeId::new(16 * u64::from(number) + u64::from(request.server)),
+        node,
+        next: number + 1,
+    }))
+}
+
+fn decide_make(
+    alloc: Global,
+    rows: &Rows,
+    request: &Request,
+    mode: u16,
+    given: Option<DefaultLayout>,
+    walked: Walked,
+) -> Result<Decision, Memory>
+    requires { request.now.server < 16 }
+    ensures { IfOk result (λ decision. decision ≡ decide_make rows.now request.now mode given walked) }
+{
+    match walked {
+        Walked::At(_, _) => Ok(refused(Code::Exists)),
+        Walked::NoName(_) => Ok(refused(Code::Exists)),
+        Walked::Stopped(code) => Ok(refused(code)),
+        Walked::AtParent(dir, name) => {
+            if rows.target(alloc, dir, &name)?.is_some() {
+                return Ok(refused(Code::Exists));
+            }
+            decide_child(alloc, rows, request, mode, given, dir, name)
+        }
+    }
+}
+
+fn is_layout(config: &Config, given: Option<DefaultLayout>) -> bool
+    ensures { result ≡ is_layout config.now given }
+{
+    match given {
+        None => true,
+        Some(layout) => config.admits(layout),
+    }
+}
+
+fn decide_at(
+    alloc: Global,
+    config: &Config,
+    rows: &Rows,
+    request: &Request,
+    base: InodeId,
+    path: &Path,
+    mode: u16,
+    given: Option<DefaultLayout>,
+) -> Result<Decision, Memory>
+    requires { request.now.server < 16 }
+    ensures { IfOk result (λ decision. decision ≡
+        (if is_layout config.now given
+        then decide_make rows.now request.now mode given (rows_resolve rows.now base path.now Parent)
+        else refused BadLayout)) }
+{
+    if !is_layout(config, given) {
+        return Ok(refused(Code::BadLayout));
+    }
+    let walked = resolve(alloc, rows, base, path, WalkEnd::Parent)?;
+    decide_make(alloc, rows, request, mode, given, walked)
+}
+
+fn decide_mkdir(
+    alloc: Global,
+    config: &Config,
+    rows: &Rows,
+    request: &Request,
+    place: &Place,
+    mode: u16,
+    given: Option<DefaultLayout>,
+) -> Result<Decision, Memory>
+    requires { request.now.server < 16 }
+    ensures { IfOk result (λ decision. decision ≡
+        decide_path (path_of place.now.text) (λ path.
+        if is_layout config.now given
+        then decide_make rows.now request.now mode given (rows_resolve rows.now place.now.base path Parent)
+        else refused BadLayout)) }
+{
+    match Path::read(alloc, place.text.as_slice()) {
+        Ok(path) => decide_at(alloc, config, rows, request, place.base, &path, mode, given),
+        Err(PathError::BadPath) => Ok(refused(Code::BadPath)),
+        Err(PathError::BadName) => Ok(refused(Code::BadName)),
+        Err(PathError::Memory) => Err(Memory),
+    }
+}
+
+/// What the rows say of a request.
+pub fn decide(
+    alloc: Global,
+    config: &Config,
+    rows: &Rows,
+    request: &Request,
+) -> Result<Decision, Memory>
+    requires { request.now.server < 16 }
+    ensures { IfOk result (λ decision. decision ≡ decide config.now rows.now request.now) }
+{
+    match &request.call {
+        Call::Lookup(place) => decide_lookup(alloc, rows, place),
+        Call::Mkdir {
+            place,
+            mode,
+            layout,
+        } => decide_mkdir(alloc, config, rows, request, place, *mode, *layout),
+    }
+}
