@@ -1,1 +1,2 @@
+pub mod MadeHolds
 pub mod SameDecisions

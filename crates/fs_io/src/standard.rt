@@ -1,0 +1,100 @@
+ghost use Rattle.std.specs.Prelude.{◌≡◌, ◌<◌, IfOk, length};
+ghost use Rattle.std.specs.Io.{ReadsAtMost, WritesAtMost};
+ghost use Rattle.std.specs.Io.KnownBytes.{ReadConsumes, WriteAppends};
+ghost use Rattle.fs_io.specs.Causes.{HasCause, count_after};
+
+use crate::traits::{Sink, SinkFailed, Source, SourceFailed};
+use std::io::{Read, Write};
+
+/// A reader of std as a source. Each `Err` of the reader is a fault.
+#[derive(Drop)]
+pub struct StdSource<R> {
+    inner: R,
+    faults: u64,
+}
+
+impl<R> StdSource<R> {
+    ghost use Rattle.fs_io.specs.Standard.{reader_of, read_faults};
+
+    /// A source of what the reader still gives, with no faults so far.
+    pub fn new(inner: R) -> StdSource<R>
+        ensures reader { reader_of result ≡ inner }
+        ensures faults { read_faults result ≡ 0 }
+    {
+        StdSource { inner, faults: 0 }
+    }
+}
+
+impl<R: Read> Source for StdSource<R> {
+    ghost use Rattle.fs_io.specs.Standard.{reader_of, read_faults};
+
+    ghost left = { λ s. R.remaining (reader_of s) };
+
+    ghost faults = { λ s. read_faults s };
+
+    fn take(&mut self, into: &mut [u8]) -> Result<usize, SourceFailed>
+        ensures bound { ReadsAtMost result into.new }
+        ensures bytes { ReadConsumes
+            (R.remaining (reader_of self.old)) (R.remaining (reader_of self.new)) result into.new }
+        ensures cause { HasCause (read_faults self.old) (read_faults self.new) result }
+
+        // Each error raises the count by one, and nothing else does.
+        ensures count { read_faults self.new ≡ count_after (read_faults self.old) result }
+    {
+        match self.inner.read(into) {
+            Ok(count) => Ok(count),
+            Err(_) => {
+                self.faults = self.faults.saturating_add(1);
+                Err(SourceFailed)
+            }
+        }
+    }
+}
+
+/// A writer of std as a sink. Each `Err` of the writer is a fault, and so is a write that takes
+/// none of the bytes that it is given.
+#[derive(Drop)]
+pub struct StdSink<W> {
+    inner: W,
+    faults: u64,
+}
+
+impl<W> StdSink<W> {
+    ghost use Rattle.fs_io.specs.Standard.{writer_of, write_faults};
+
+    /// A sink to the writer, with no faults so far. Nothing is flushed: a writer that keeps bytes
+    /// back is flushed by its owner.
+    pub fn new(inner: W) -> StdSink<W>
+        ensures writer { writer_of result ≡ inner }
+        ensures faults { write_faults result ≡ 0 }
+    {
+        StdSink { inner, faults: 0 }
+    }
+}
+
+impl<W: Write> Sink for StdSink<W> {
+    ghost use Rattle.fs_io.specs.Standard.{writer_of, write_faults};
+
+    ghost written = { λ s. W.contents (writer_of s) };
+
+    ghost faults = { λ s. write_faults s };
+
+    fn put(&mut self, bytes: &[u8]) -> Result<usize, SinkFailed>
+        ensures bound { WritesAtMost result bytes.now }
+        ensures some { IfOk result (λ n. 0 < length bytes.now → 0 < n) }
+        ensures bytes { WriteAppends
+            (W.contents (writer_of self.old)) (W.contents (writer_of self.new)) result bytes.now }
+        ensures cause { HasCause (write_faults self.old) (write_faults self.new) result }
+
+        // Each error raises the count by one, and nothing else does.
+        ensures count { write_faults self.new ≡ count_after (write_faults self.old) result }
+    {
+        match self.inner.write(bytes) {
+            Ok(count) if count > 0 || bytes.is_empty() => Ok(count),
+            _ => {
+                self.faults = self.faults.saturating_add(1);
+                Err(SinkFailed)
+            }
+        }
+    }
+}
