@@ -1,2 +1,4 @@
+pub mod Due
 pub mod MadeHolds
+pub mod Running
 pub mod SameDecisions

@@ -151,10 +151,10 @@ module _ (rows : Rows) (T : Tree) (server : ℕ) (child : Child) (h : Holds rows
   ]
 
   pub made_holds : Holds (rows_with_child rows server child) (record T {
-      nodes = insert T.nodes child.id child.node;
-      entries = insert T.entries (child.dir, child.name) child.id;
-      next = insert T.next server child.next;
-    })
+    nodes = insert T.nodes child.id child.node;
+    entries = insert T.entries (child.dir, child.name) child.id;
+    next = insert T.next server child.next;
+  })
   made_holds = record { inodes = made_inodes; entries = made_entries; numbers = made_numbers; targets = made_targets; limits = made_limits }
 
 -- ---- what follows a decision

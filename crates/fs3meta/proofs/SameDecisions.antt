@@ -14,8 +14,8 @@ use Rattle.fs_base.specs.declared.config.Config.{Config}
 use Rattle.fs_base.specs.declared.path.Path.{Path}
 use Rattle.fs_base.specs.declared.reply.Reply.TheVariants.{Made}
 use Rattle.fs_base.specs.Paths.{path_of}
-use Rattle.tree_model.specs.Calls.{Effect, Leaves, Makes, id_of, is_layout, default_of, new_directory, on_path, found_at, add_numbered, add_child, unless_there, make_at, refuses, with_child, effect_of, effect}
-use Rattle.tree_model.specs.Tree.{Tree, next_at}
+use Rattle.tree_model.specs.Calls.{Effect, Leaves, Makes, id_of, is_layout, default_of, on_path, add_numbered, add_child, unless_there, make_at, refuses, with_child, effect_of, effect}
+use Rattle.tree_model.specs.Tree.{Tree, next_at, directory_of}
 use Rattle.tree_model.specs.Walk.{in_part, in_directory, ends_at, is_last_of_parent, at_entry, from_base, down, resolve}
 use Rattle.tree_model.specs.declared.node.Node.{Node}
 use Rattle.tree_model.specs.declared.node.NodePart.{NodePart}
@@ -29,7 +29,7 @@ use Rattle.fs3meta.specs.declared.decide.Decision.{Decision}
 use Rattle.fs3meta.specs.declared.decide.Decision.TheVariants.{Answer, Make}
 use Rattle.fs3meta.specs.declared.rows.Rows.{Rows}
 use Rattle.fs3meta.specs.Rows.{inode_row, target_row, number_row}
-use Rattle.fs3meta.specs.Decide.{rows_down, rows_resolve, refused, decide, decide_path, decide_found, decide_number, decide_child, decide_free, decide_make, decide_call}
+use Rattle.fs3meta.specs.Decide.{rows_down, rows_resolve, refused, decide, decide_path, decide_number, decide_child, decide_free, decide_make, decide_call}
 use Rattle.fs3meta.specs.Holds.{Holds, HasBase}
 
 -- ---- the walk
@@ -89,7 +89,7 @@ unfolding down
 down_small rows T end [] here h small = small_end end here
 down_small rows T end (name ∷ names) here h small =
     small_directory (get T.nodes here) _ (small_either (is_last_of_parent end names) (AtParent here name) _ small
-      (small_entry T here name (down T end names) (get T.entries (here, name)) refl (λ id is. down_small rows T end names id h (h.targets here name id is))))
+    (small_entry T here name (down T end names) (get T.entries (here, name)) refl (λ id is. down_small rows T end names id h (h.targets here name id is))))
 
 small_base : (o : Option Node) (walked : Walked) → IsSmall walked → IsSmall (from_base o walked)
 small_base None walked s = tt
@@ -99,7 +99,7 @@ resolve_small : (rows : Rows) (T : Tree) (base : ℕ) (path : Path) (end : WalkE
 unfolding resolve
 resolve_small rows T base path end h small =
     small_either (path.absolute || base == 0) _ _ (down_small rows T end path.names 0 h (omega arith))
-      (small_base (get T.nodes base) _ (down_small rows T end path.names base h (omega arith)))
+    (small_base (get T.nodes base) _ (down_small rows T end path.names base h (omega arith)))
 
 -- ---- the decision
 
@@ -133,16 +133,10 @@ refusal T server code = (refl, tt)
 room : (T : Tree) (server : ℕ) (rows : Rows) → Holds rows T → (next_at T.next server == 4294967295) ≡ false → next_at T.next server < 4294967295
 room T server rows h e = let le = h.limits server in grind (arith, e, le)
 
-found_same : (T : Tree) (server : ℕ) (walked : Walked) → Decides T server (found_at walked) (decide_found walked)
-found_same T server (At id kind) = (refl, tt)
-found_same T server (Stopped code) = (refl, tt)
-found_same T server (AtParent dir name) = (refl, tt)
-found_same T server (NoName id) = (refl, tt)
-
 numbered_by : (rows : Rows) (T : Tree) (q : Request) (mode dir : ℕ) (name : List ℕ) (layout : DefaultLayout) (b : Bool) → Holds rows T → dir < 2 ^ 64 → (next_at T.next q.server == 4294967295) ≡ b
     → Decides T q.server
-      (cond b (refuses (codes.AtLimit Inodes)) (Makes (with_child T q.server dir name (new_directory mode q.stamp layout)) (Made (id_of (next_at T.next q.server) q.server))))
-      (cond b (refused (codes.AtLimit Inodes)) (Make (record { dir = dir; name = name; id = id_of (next_at T.next q.server) q.server; node = new_directory mode q.stamp layout; next = next_at T.next q.server + 1 })))
+    (cond b (refuses (codes.AtLimit Inodes)) (Makes (with_child T q.server dir name (directory_of mode q.stamp layout)) (Made (id_of (next_at T.next q.server) q.server))))
+    (cond b (refused (codes.AtLimit Inodes)) (Make (record { dir = dir; name = name; id = id_of (next_at T.next q.server) q.server; node = directory_of mode q.stamp layout; next = next_at T.next q.server + 1 })))
 numbered_by rows T q mode dir name layout true h small e = (refl, tt)
 numbered_by rows T q mode dir name layout false h small e = (refl, record { id = refl; next = refl; room = room T q.server rows h e; dir = small })
 
@@ -163,7 +157,7 @@ make_same rows T q mode given (NoName id) h small = (refl, tt)
 make_same rows T q mode given (Stopped code) h small = (refl, tt)
 make_same rows T q mode given (AtParent dir name) h small =
     rw (h.entries dir name small, h.inodes dir small)
-      (free_same T q.server (get T.entries (dir, name)) _ _ (child_same rows T q mode dir name given (get T.nodes dir) h small))
+    (free_same T q.server (get T.entries (dir, name)) _ _ (child_same rows T q mode dir name given (get T.nodes dir) h small))
 
 path_same : (T : Tree) (server : ℕ) (r : Result Path Code) (e : Path → Effect) (d : Path → Decision) → ((path : Path) → Decides T server (e path) (d path)) → Decides T server (on_path r e) (decide_path r d)
 path_same T server (Err code) e d same = (refl, tt)
@@ -176,12 +170,12 @@ layout_same T server false e d same = (refl, tt)
 
 call_same : (C : Config) (rows : Rows) (T : Tree) (q : Request) (call : Call) → Holds rows T → HasBase call → Decides T q.server (effect_of C T q call) (decide_call C rows q call)
 call_same C rows T q (calls.Lookup place) h based =
-    path_same T q.server (path_of place.text) _ _ (λ path. rw (resolve_same rows T place.base path NoFollow h based) (found_same T q.server (resolve T place.base path NoFollow)))
+    path_same T q.server (path_of place.text) _ _ (λ path. rw (resolve_same rows T place.base path NoFollow h based) (refl, tt))
 call_same C rows T q (calls.Mkdir place mode layout) h based =
     path_same T q.server (path_of place.text) _ _ (λ path.
-      layout_same T q.server (is_layout C layout) _ _
-        (rw (resolve_same rows T place.base path Parent h based)
-          (make_same rows T q mode layout (resolve T place.base path Parent) h (resolve_small rows T place.base path Parent h based))))
+    layout_same T q.server (is_layout C layout) _ _
+    (rw (resolve_same rows T place.base path Parent h based)
+    (make_same rows T q mode layout (resolve T place.base path Parent) h (resolve_small rows T place.base path Parent h based))))
 
 pub decide_same : (C : Config) (rows : Rows) (T : Tree) (q : Request) → Holds rows T → HasBase q.call → Decides T q.server (effect C T q) (decide C rows q)
 decide_same C rows T q h based = call_same C rows T q q.call h based

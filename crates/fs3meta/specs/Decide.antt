@@ -11,11 +11,12 @@ use Rattle.fs_base.specs.declared.code.Limit.TheVariants.{Inodes}
 use Rattle.fs_base.specs.declared.config.Config.{Config}
 use Rattle.fs_base.specs.declared.path.Path.{Path}
 use Rattle.fs_base.specs.declared.reply.Reply.{Reply}
-use Rattle.fs_base.specs.declared.reply.Reply.TheVariants.{Made, Found, Refused}
+use Rattle.fs_base.specs.declared.reply.Reply.TheVariants.{Made, Refused}
 use Rattle.fs_base.specs.Paths.{path_of}
 use Rattle.key_schema.specs.Keys.{spelled_key}
 use Rattle.key_schema.specs.declared.key.Key.TheVariants as keys
-use Rattle.tree_model.specs.Calls.{id_of, is_layout, default_of, new_directory}
+use Rattle.tree_model.specs.Calls.{id_of, found_of, is_layout, default_of}
+use Rattle.tree_model.specs.Tree.{directory_of}
 use Rattle.tree_model.specs.Walk.{in_directory, ends_at, is_last_of_parent, at_entry, from_base}
 use Rattle.tree_model.specs.declared.node.Node.{Node}
 use Rattle.tree_model.specs.declared.walk.WalkEnd.{WalkEnd}
@@ -48,12 +49,6 @@ abbrev pub decide_path : Result Path Code → (Path → Decision) → Decision
 decide_path (Err code) decision = refused code
 decide_path (Ok path) decision = decision path
 
-abbrev pub decide_found : Walked → Decision
-decide_found (At id kind) = Answer (Found id kind)
-decide_found (Stopped code) = refused code
-decide_found (AtParent id name) = refused codes.NotDir
-decide_found (NoName id) = refused codes.NotDir
-
 abbrev pub decide_number : ℕ → Child → Decision
 decide_number number child = if number == 4294967295 then refused (codes.AtLimit Inodes) else Make child
 
@@ -61,7 +56,7 @@ abbrev pub decide_child : Rows → Request → ℕ → Option DefaultLayout → 
 decide_child rows q mode given dir name None = refused codes.NotDir
 decide_child rows q mode given dir name (Some parent) =
     let number = number_row rows q.server in
-    decide_number number (record { dir = dir; name = name; id = id_of number q.server; node = new_directory mode q.stamp (unwrap_or given (default_of parent.part)); next = number + 1 })
+    decide_number number (record { dir = dir; name = name; id = id_of number q.server; node = directory_of mode q.stamp (unwrap_or given (default_of parent.part)); next = number + 1 })
 
 abbrev pub decide_free : Option ℕ → Decision → Decision
 decide_free None decision = decision
@@ -75,7 +70,7 @@ decide_make rows q mode given (AtParent dir name) =
     decide_free (target_row rows dir name) (decide_child rows q mode given dir name (inode_row rows dir))
 
 abbrev pub decide_call : Config → Rows → Request → Call → Decision
-decide_call C rows q (calls.Lookup place) = decide_path (path_of place.text) (λ path. decide_found (rows_resolve rows place.base path NoFollow))
+decide_call C rows q (calls.Lookup place) = decide_path (path_of place.text) (λ path. Answer (found_of (rows_resolve rows place.base path NoFollow)))
 decide_call C rows q (calls.Mkdir place mode layout) = decide_path (path_of place.text) (λ path.
     if is_layout C layout
     then decide_make rows q mode layout (rows_resolve rows place.base path Parent)

@@ -1,19 +1,19 @@
 ghost use Rattle.std.specs.Prelude.{◌≡◌, ◌<◌, IfOk, if◌then◌else◌};
 ghost use Rattle.fs_base.specs.Paths.{path_of};
 ghost use Rattle.fs_base.specs.declared.code.Code.TheVariants.{BadLayout};
-ghost use Rattle.fs3meta.specs.Decide.{rows_down, rows_resolve, refused, decide, decide_path, decide_found, decide_child, decide_make};
+ghost use Rattle.fs3meta.specs.Decide.{rows_down, rows_resolve, refused, decide, decide_path, decide_child, decide_make};
 ghost use Rattle.fs3meta.specs.Rows.{inode_row};
-ghost use Rattle.tree_model.specs.Calls.{is_layout};
-ghost use Rattle.tree_model.specs.Walk.{ends_at, is_last_of_parent};
+ghost use Rattle.fs3meta.specs.declared.decide.Decision.TheVariants.{Answer};
+ghost use Rattle.tree_model.specs.Calls.{found_of, is_layout};
 ghost use Rattle.tree_model.specs.declared.walk.WalkEnd.TheVariants.{NoFollow, Parent};
 
 use crate::rows::Rows;
 use fs_base::{
-    Call, Code, Config, DefaultLayout, InodeId, Kind, Limit, Memory, Name, Path, PathError, Place,
-    Reply, Request,
+    Call, Code, Config, DefaultLayout, InodeId, Limit, Memory, Name, Path, PathError, Place, Reply,
+    Request,
 };
 use std::alloc::Global;
-use tree_model::{Node, NodePart, WalkEnd, Walked};
+use tree_model::{Node, NodePart, WalkEnd, Walked, is_layout};
 
 /// A new directory under a name, and the number that its server gives after it.
 #[derive(Debug, Drop)]
@@ -38,24 +38,6 @@ fn refused(code: Code) -> Decision
     Decision::Answer(Reply::Refused(code))
 }
 
-fn ends_at(end: WalkEnd, here: InodeId) -> Walked
-    ensures { result ≡ ends_at end here }
-{
-    match end {
-        WalkEnd::NoFollow => Walked::At(here, Kind::Dir),
-        WalkEnd::Parent => Walked::NoName(here),
-    }
-}
-
-fn is_last_of_parent(end: WalkEnd, names: &[Name]) -> bool
-    ensures { result ≡ is_last_of_parent end names.now }
-{
-    match end {
-        WalkEnd::NoFollow => false,
-        WalkEnd::Parent => names.is_empty(),
-    }
-}
-
 /// Down one entry for each name, by keys.
 #[tactic(auto, unfolding(crate::specs::Decide::rows_down))]
 fn down(
@@ -72,7 +54,7 @@ fn down(
         if rows.inode(alloc, here)?.is_none() {
             return Ok(Walked::Stopped(Code::NotDir));
         }
-        if is_last_of_parent(end, &names[i + 1..]) {
+        if end.is_before_last(&names[i + 1..]) {
             return Ok(Walked::AtParent(here, name.try_clone(alloc)?));
         }
         let Some(id) = rows.target(alloc, here, name)? else {
@@ -80,7 +62,7 @@ fn down(
         };
         here = id;
     }
-    Ok(ends_at(end, here))
+    Ok(end.at(here))
 }
 
 /// Where a path leads from a base.
@@ -104,25 +86,14 @@ fn resolve(
     down(alloc, rows, end, names, base)
 }
 
-fn found(walked: Walked) -> Decision
-    ensures { result ≡ decide_found walked }
-{
-    match walked {
-        Walked::At(id, kind) => Decision::Answer(Reply::Found(id, kind)),
-        Walked::Stopped(code) => refused(code),
-        Walked::AtParent(_, _) => refused(Code::NotDir),
-        Walked::NoName(_) => refused(Code::NotDir),
-    }
-}
-
 fn decide_lookup(alloc: Global, rows: &Rows, place: &Place) -> Result<Decision, Memory>
     ensures { IfOk result (λ decision. decision ≡
-        decide_path (path_of place.now.text) (λ path. decide_found (rows_resolve rows.now place.now.base path NoFollow))) }
+        decide_path (path_of place.now.text) (λ path. Answer (found_of (rows_resolve rows.now place.now.base path NoFollow)))) }
 {
     match Path::read(alloc, place.text.as_slice()) {
         Ok(path) => {
             let walked = resolve(alloc, rows, place.base, &path, WalkEnd::NoFollow)?;
-            Ok(found(walked))
+            Ok(Decision::Answer(walked.found()))
         }
         Err(PathError::BadPath) => Ok(refused(Code::BadPath)),
         Err(PathError::BadName) => Ok(refused(Code::BadName)),
@@ -152,18 +123,7 @@ fn decide_child(
     if number == u32::MAX {
         return Ok(refused(Code::AtLimit(Limit::Inodes)));
     }
-    let stamp = request.stamp;
-    let node = Node {
-        mode,
-        owner: 0,
-        group: 0,
-        atime: stamp,
-        mtime: stamp,
-        ctime: stamp,
-        part: NodePart::Dir {
-            layout: given.unwrap_or(layout),
-        },
-    };
+    let node = Node::directory(mode, request.stamp, given.unwrap_or(layout));
     Ok(Decision::Make(Child {
         dir,
         name,
@@ -194,15 +154,6 @@ fn decide_make(
             }
             decide_child(alloc, rows, request, mode, given, dir, name)
         }
-    }
-}
-
-fn is_layout(config: &Config, given: Option<DefaultLayout>) -> bool
-    ensures { result ≡ is_layout config.now given }
-{
-    match given {
-        None => true,
-        Some(layout) => config.admits(layout),
     }
 }
 

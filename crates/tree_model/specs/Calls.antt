@@ -20,7 +20,7 @@ use Rattle.tree_model.specs.declared.node.NodePart.TheVariants.{Dir}
 use Rattle.tree_model.specs.declared.walk.WalkEnd.TheVariants.{NoFollow, Parent}
 use Rattle.tree_model.specs.declared.walk.Walked.{Walked}
 use Rattle.tree_model.specs.declared.walk.Walked.TheVariants.{At, AtParent, NoName, Stopped}
-use Rattle.tree_model.specs.Tree.{Tree, next_at}
+use Rattle.tree_model.specs.Tree.{Tree, next_at, directory_of}
 use Rattle.tree_model.specs.Walk.{resolve}
 
 -- a call either leaves the tree and replies, or makes a new tree with its reply
@@ -36,13 +36,14 @@ abbrev pub on_path : Result Path Code → (Path → Effect) → Effect
 on_path (Err code) effect = refuses code
 on_path (Ok path) effect = effect path
 
--- ---- lookup: the last two don't come where a walk wants no parent
+-- ---- lookup
 
-abbrev pub found_at : Walked → Effect
-found_at (At id kind) = Leaves (Found id kind)
-found_at (Stopped code) = refuses code
-found_at (AtParent id name) = refuses codes.NotDir
-found_at (NoName id) = refuses codes.NotDir
+-- the last two don't come where a walk wants no parent
+abbrev pub found_of : Walked → Reply
+found_of (At id kind) = Found id kind
+found_of (Stopped code) = Refused code
+found_of (AtParent id name) = Refused codes.NotDir
+found_of (NoName id) = Refused codes.NotDir
 
 -- ---- mkdir
 
@@ -60,9 +61,6 @@ with_child T server dir name node =
       next = insert T.next server (number + 1);
     }
 
-abbrev pub new_directory : ℕ → ℕ → DefaultLayout → Node
-new_directory mode stamp layout = record { mode = mode; owner = 0; group = 0; atime = stamp; mtime = stamp; ctime = stamp; part = Dir layout }
-
 -- a given default layout is looked at before the tree
 abbrev pub is_layout : Config → Option DefaultLayout → Bool
 is_layout C None = true
@@ -73,7 +71,7 @@ abbrev pub add_numbered : Tree → ℕ → ℕ → ℕ → ℕ → List ℕ → 
 add_numbered T server mode stamp dir name layout =
     if next_at T.next server == 4294967295
     then refuses (codes.AtLimit Inodes)
-    else Makes (with_child T server dir name (new_directory mode stamp layout)) (Made (id_of (next_at T.next server) server))
+    else Makes (with_child T server dir name (directory_of mode stamp layout)) (Made (id_of (next_at T.next server) server))
 
 abbrev pub default_of : NodePart → DefaultLayout
 default_of (Dir layout) = layout
@@ -98,7 +96,7 @@ make_at T server mode stamp given (AtParent dir name) =
 -- ---- the table
 
 abbrev pub effect_of : Config → Tree → Request → Call → Effect
-effect_of C T q (calls.Lookup place) = on_path (path_of place.text) (λ path. found_at (resolve T place.base path NoFollow))
+effect_of C T q (calls.Lookup place) = on_path (path_of place.text) (λ path. Leaves (found_of (resolve T place.base path NoFollow)))
 effect_of C T q (calls.Mkdir place mode layout) = on_path (path_of place.text) (λ path.
     if is_layout C layout
     then make_at T q.server mode q.stamp layout (resolve T place.base path Parent)

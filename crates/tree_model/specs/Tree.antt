@@ -3,6 +3,7 @@ use Rattle.std.specs.Prelude.{ℕ}
 use Rattle.std.specs.Option.{unwrap_or}
 use Rattle.std.specs.Ordering.{nat_cmp}
 use Rattle.std.specs.FinMap.{FinMap, empty, get, insert}
+use Rattle.fs_base.specs.declared.call.DefaultLayout.{DefaultLayout}
 use Rattle.fs_base.specs.declared.config.Config.{Config}
 use Rattle.tree_model.specs.declared.node.Node.{Node}
 use Rattle.tree_model.specs.declared.node.NodePart.TheVariants.{Dir}
@@ -25,8 +26,12 @@ pub record Served : Type 0 where
 abbrev pub next_at : FinMap nat_cmp ℕ → ℕ → ℕ
 next_at next server = unwrap_or (get next server) 1
 
+-- a directory of owner and group 0, with the stamp as each of its times
+abbrev pub directory_of : ℕ → ℕ → DefaultLayout → Node
+directory_of mode stamp layout = record { mode = mode; owner = 0; group = 0; atime = stamp; mtime = stamp; ctime = stamp; part = Dir layout }
+
 abbrev pub root_of : Config → Node
-root_of C = record { mode = 493; owner = 0; group = 0; atime = 0; mtime = 0; ctime = 0; part = Dir (record { chunk = C.chunk; stripe = C.stripe }) }
+root_of C = directory_of 493 0 (record { chunk = C.chunk; stripe = C.stripe })
 
 abbrev pub new_tree : Config → Tree
 new_tree C = record { nodes = insert empty 0 (root_of C); entries = empty; next = empty }

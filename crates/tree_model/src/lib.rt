@@ -9,6 +9,7 @@ mod node;
 mod tree;
 mod walk;
 
+pub use make::is_layout;
 pub use maps::{ByName, ByNumber};
 pub use node::{Node, NodePart};
 pub use tree::Tree;

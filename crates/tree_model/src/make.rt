@@ -32,7 +32,8 @@ pub enum Plan {
     Add(Child),
 }
 
-fn is_layout(config: &Config, given: Option<DefaultLayout>) -> bool
+/// Whether a call may give this default layout: none, or one that the configuration admits.
+pub fn is_layout(config: &Config, given: Option<DefaultLayout>) -> bool
     ensures { result ≡ is_layout config.now given }
 {
     match given {
@@ -68,17 +69,7 @@ impl Tree {
             return Plan::Refuse(Code::AtLimit(Limit::Inodes));
         }
         let id = InodeId::new(16 * u64::from(number) + u64::from(server));
-        let node = Node {
-            mode,
-            owner: 0,
-            group: 0,
-            atime: stamp,
-            mtime: stamp,
-            ctime: stamp,
-            part: NodePart::Dir {
-                layout: given.unwrap_or(layout),
-            },
-        };
+        let node = Node::directory(mode, stamp, given.unwrap_or(layout));
         Plan::Add(Child {
             key,
             number,

@@ -4,8 +4,8 @@ ghost use Rattle.std.specs.FinMap.{get};
 ghost use Rattle.tree_model.specs.Tree.{new_tree, next_at};
 
 use crate::maps::{ByName, ByNumber};
-use crate::node::{Node, NodePart};
-use fs_base::{Config, DefaultLayout, InodeId, Memory, Name};
+use crate::node::Node;
+use fs_base::{Config, InodeId, Memory, Name};
 use std::alloc::Global;
 use std::marker::Model;
 
@@ -39,22 +39,8 @@ impl Tree {
     pub fn new(alloc: Global, config: Config) -> Result<Tree, Memory>
         ensures { IfOk result (λ t. t ≡ record { config = config; tree = new_tree config }) }
     {
-        let root = Node {
-            mode: 0o755,
-            owner: 0,
-            group: 0,
-            atime: 0,
-            mtime: 0,
-            ctime: 0,
-            part: NodePart::Dir {
-                layout: DefaultLayout {
-                    chunk: config.chunk(),
-                    stripe: config.stripe(),
-                },
-            },
-        };
         let mut nodes = ByNumber::new(alloc);
-        nodes.insert(0, root)?;
+        nodes.insert(0, Node::root(&config))?;
         Ok(Tree {
             config,
             nodes,

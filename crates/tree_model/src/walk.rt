@@ -1,9 +1,9 @@
 ghost use Rattle.std.specs.Prelude.{◌≡◌, IfOk};
 ghost use Rattle.std.specs.FinMap.{get};
-ghost use Rattle.tree_model.specs.Walk.{ends_at, is_last_of_parent, down, resolve};
+ghost use Rattle.tree_model.specs.Walk.{down, resolve};
 
 use crate::tree::Tree;
-use fs_base::{Code, InodeId, Kind, Memory, Name, Path};
+use fs_base::{Code, InodeId, Kind, Memory, Name, Path, Reply};
 use std::alloc::Global;
 
 /// What a call wants of a walk: the node at its end, or the directory that holds the last name.
@@ -22,21 +22,45 @@ pub enum Walked {
     Stopped(Code),
 }
 
-fn ends_at(end: WalkEnd, here: InodeId) -> Walked
-    ensures { result ≡ ends_at end here }
-{
-    match end {
-        WalkEnd::NoFollow => Walked::At(here, Kind::Dir),
-        WalkEnd::Parent => Walked::NoName(here),
+impl WalkEnd {
+    ghost use Rattle.std.specs.Prelude.{◌≡◌};
+    ghost use Rattle.tree_model.specs.Walk.{ends_at, is_last_of_parent};
+
+    /// What a walk comes to that has no names left.
+    pub fn at(self, here: InodeId) -> Walked
+        ensures { result ≡ ends_at self here }
+    {
+        match self {
+            WalkEnd::NoFollow => Walked::At(here, Kind::Dir),
+            WalkEnd::Parent => Walked::NoName(here),
+        }
+    }
+
+    /// Whether a walk ends before a name, with these names behind it.
+    pub fn is_before_last(self, names: &[Name]) -> bool
+        ensures { result ≡ is_last_of_parent self names.now }
+    {
+        match self {
+            WalkEnd::NoFollow => false,
+            WalkEnd::Parent => names.is_empty(),
+        }
     }
 }
 
-fn is_last_of_parent(end: WalkEnd, names: &[Name]) -> bool
-    ensures { result ≡ is_last_of_parent end names.now }
-{
-    match end {
-        WalkEnd::NoFollow => false,
-        WalkEnd::Parent => names.is_empty(),
+impl Walked {
+    ghost use Rattle.std.specs.Prelude.{◌≡◌};
+    ghost use Rattle.tree_model.specs.Calls.{found_of};
+
+    /// The reply to a lookup whose walk came to this.
+    pub fn found(self) -> Reply
+        ensures { result ≡ found_of self }
+    {
+        match self {
+            Walked::At(id, kind) => Reply::Found(id, kind),
+            Walked::Stopped(code) => Reply::Refused(code),
+            Walked::AtParent(_, _) => Reply::Refused(Code::NotDir),
+            Walked::NoName(_) => Reply::Refused(Code::NotDir),
+        }
     }
 }
 
@@ -58,7 +82,7 @@ impl Tree {
                 return Ok(Walked::Stopped(Code::NotDir));
             }
             let name = name.try_clone(alloc)?;
-            if is_last_of_parent(end, &names[i + 1..]) {
+            if end.is_before_last(&names[i + 1..]) {
                 return Ok(Walked::AtParent(here, name));
             }
             let Some(id) = self.entry(&(here.get(), name)) else {
@@ -66,7 +90,7 @@ impl Tree {
             };
             here = id;
         }
-        Ok(ends_at(end, here))
+        Ok(end.at(here))
     }
 
     /// Where a path leads from a base.

@@ -1,0 +1,56 @@
+-- The text that is due, and what was written.
+use Rattle.std.proofs.Common.{◌≡◌, ℕ, ◌<◌, List, Bool, true, Option, Some, None, sym, subst, refl, inl, inr}
+use Rattle.std.specs.Prelude.{Ok, Err, String}
+use Rattle.std.specs.Io.KnownBytes.{Appends, Keeps}
+use Rattle.std.specs.declared.alloc.Global.{Global}
+use Rattle.fs_io.specs.Reading.{ReadsToEnd, PassesLimit}
+use Rattle.scenario.specs.declared.broken.Broken.{Broken}
+use Rattle.scenario.specs.declared.plan.Plan.{Plan}
+use Rattle.scenario.specs.Broken.{rule}
+use Rattle.scenario.specs.Scenario.{scenario_of}
+use Rattle.scenario.proofs.Rules.{breaks_rule_1}
+use Rattle.fs3meta.specs.declared.top.Status.{Status}
+use Rattle.fs3meta.specs.declared.top.Status.TheVariants as status
+use Rattle.fs3meta.specs.Top.{IsRunOf, IsDue, CallsFor, Writes, is_step, bad_line}
+
+pub calls_for_ok : (bytes : List ℕ) (plan : Plan) (s : Status) (text : List ℕ) → scenario_of bytes ≡ Ok plan → (s ≡ status.Ok) × IsRunOf plan text → CallsFor bytes s text
+calls_for_ok bytes plan s text e p = subst (λ (x : Status). CallsFor bytes x text) (sym p.0) (plan, e, p.1)
+
+pub calls_for_bad : (bytes : List ℕ) (broken : Broken) (s : Status) (text : List ℕ) → scenario_of bytes ≡ Err broken → (s ≡ status.Bad) × (text ≡ bad_line broken) → CallsFor bytes s text
+calls_for_bad bytes broken s text e p = subst (λ (x : Status). CallsFor bytes x text) (sym p.0) (broken, e, p.1)
+
+-- the whole input was read
+pub due_from_bytes : (words : List (String Global)) (old new : Option (List ℕ)) (bytes : List ℕ) (s : Status) (text : List ℕ) → is_step words ≡ true → ReadsToEnd old new bytes 16777216 → CallsFor bytes s text → IsDue words old new s text
+due_from_bytes words old new bytes status.Ok text w r p = (w, record { bytes = bytes; whole = r; plan = p.0; reads = p.1; runs = p.2 })
+due_from_bytes words old new bytes status.Bad text w r p = (w, record { bytes = bytes; came = r.came; whole = inl r.ended; broken = p.0; breaks = p.1; written = p.2 })
+due_from_bytes words old new bytes status.AuditNo text w r p = p
+due_from_bytes words old new bytes status.Usage text w r p = absurd p
+due_from_bytes words old new bytes status.ReadFault text w r p = p
+due_from_bytes words old new bytes status.WriteFault text w r p = p
+due_from_bytes words old new bytes status.Memory text w r p = p
+
+-- too much of it came
+pub due_too_long : (words : List (String Global)) (old new : Option (List ℕ)) (s : Status) (text : List ℕ) → is_step words ≡ true → PassesLimit old new 16777216 → (s ≡ status.Bad) × (text ≡ bad_line (rule 1 16777216)) → IsDue words old new s text
+due_too_long words old new s text w p e =
+    subst (λ (x : Status). IsDue words old new x text) (sym e.0)
+    (w, record { bytes = p.0; came = p.1; whole = inr p.2; broken = rule 1 16777216; breaks = breaks_rule_1 p.0 p.2; written = e.1 })
+
+pub writes_all : (words : List (String Global)) (old new out out_new : Option (List ℕ)) (s : Status) (text : List ℕ) → IsDue words old new s text → Appends out out_new text → Writes (IsDue words old new) out out_new s
+writes_all words old new out out_new status.Ok text d a = record { text = text; is_due = d; written = a }
+writes_all words old new out out_new status.AuditNo text d a = absurd d
+writes_all words old new out out_new status.Usage text d a = record { text = text; is_due = d; written = a }
+writes_all words old new out out_new status.Bad text d a = record { text = text; is_due = d; written = a }
+writes_all words old new out out_new status.ReadFault text d a = absurd d
+writes_all words old new out out_new status.WriteFault text d a = absurd d
+writes_all words old new out out_new status.Memory text d a = absurd d
+
+pub keeps : (out : Option (List ℕ)) → Keeps out out
+keeps None = tt
+keeps (Some xs) = refl
+
+-- a status that is due is no fault
+pub due_no_read_fault : (words : List (String Global)) (old new : Option (List ℕ)) (s : Status) (text : List ℕ) → IsDue words old new s text → s ≡ status.ReadFault → ⊥
+due_no_read_fault words old new s text d e = subst (λ (x : Status). IsDue words old new x text) e d
+
+pub due_no_write_fault : (words : List (String Global)) (old new : Option (List ℕ)) (s : Status) (text : List ℕ) → IsDue words old new s text → s ≡ status.WriteFault → ⊥
+due_no_write_fault words old new s text d e = subst (λ (x : Status). IsDue words old new x text) e d

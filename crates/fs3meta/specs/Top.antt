@@ -1,0 +1,94 @@
+-- What the program is to write, by its status.
+use Rattle.std.specs.Prelude.{◌≡◌, ◌⊎◌, ℕ, ◌<◌, List, [], ◌∷◌, length, take, Bool, false, IsTrue, Option, Ok, Err, codes, String, string_bytes}
+use Rattle.std.specs.Str.{bytes_eq}
+use Rattle.std.specs.Io.KnownBytes.{Appends, Consumes, IsAtEnd, Keeps}
+use Rattle.std.specs.declared.alloc.Global.{Global}
+use Rattle.fs_io.specs.Reading.{ReadsToEnd}
+use Rattle.run_record.specs.Replies.{replies_text}
+use Rattle.run_record.specs.Words.{line, setting}
+use Rattle.scenario.specs.declared.broken.Broken.{Broken}
+use Rattle.scenario.specs.declared.plan.Plan.{Plan}
+use Rattle.scenario.specs.declared.plan.Script.{Script}
+use Rattle.scenario.specs.Scenario.{scenario_of}
+use Rattle.fs3meta.specs.declared.top.Status.{Status}
+use Rattle.fs3meta.specs.declared.top.Status.TheVariants as status
+use Rattle.fs3meta.specs.Run.{record_of}
+
+abbrev pub is_step : List (String Global) → Bool
+is_step [] = false
+is_step (word ∷ []) = bytes_eq (string_bytes word) (codes "step")
+is_step (word ∷ next ∷ words) = false
+
+abbrev pub usage_line : List ℕ
+usage_line = line (codes "usage:" ∷ codes "fs3meta" ∷ codes "check," ∷ codes "step," ∷ codes "run," ∷ codes "audit," ∷ codes "make" ∷ [])
+
+abbrev pub bad_line : Broken → List ℕ
+bad_line broken = line (codes "bad" ∷ setting (codes "rule=") broken.rule ∷ setting (codes "place=") broken.place ∷ [])
+
+-- the text is that of the run of the plan, which has one client
+pub record IsRunOf (plan : Plan) (text : List ℕ) : Type 0 where
+  pub script : Script
+  pub alone : plan.clients ≡ script ∷ []
+  pub written : text ≡ replies_text (record_of plan.config script)
+
+-- the input reads as a plan, and the text is that of its run
+pub record IsRun (old new : Option (List ℕ)) (text : List ℕ) : Type 0 where
+  pub bytes : List ℕ
+  pub whole : ReadsToEnd old new bytes 16777216
+  pub plan : Plan
+  pub reads : scenario_of bytes ≡ Ok plan
+  pub runs : IsRunOf plan text
+
+-- what came of the input, all of it or too much, breaks a rule, and the text names the first one
+pub record IsBad (old new : Option (List ℕ)) (text : List ℕ) : Type 0 where
+  pub bytes : List ℕ
+  pub came : Consumes old new bytes
+  pub whole : IsAtEnd new ⊎ (16777216 < length bytes)
+  pub broken : Broken
+  pub breaks : scenario_of bytes ≡ Err broken
+  pub written : text ≡ bad_line broken
+
+-- what the bytes of the whole input call for
+abbrev pub CallsFor : List ℕ → Status → List ℕ → Type 0
+CallsFor bytes status.Ok text = (plan : Plan) × (scenario_of bytes ≡ Ok plan) × IsRunOf plan text
+CallsFor bytes status.AuditNo text = ⊥
+CallsFor bytes status.Usage text = ⊥
+CallsFor bytes status.Bad text = (broken : Broken) × (scenario_of bytes ≡ Err broken) × (text ≡ bad_line broken)
+CallsFor bytes status.ReadFault text = ⊥
+CallsFor bytes status.WriteFault text = ⊥
+CallsFor bytes status.Memory text = ⊥
+
+-- the text that goes with a status
+abbrev pub IsDue : List (String Global) → Option (List ℕ) → Option (List ℕ) → Status → List ℕ → Type 0
+IsDue words old new status.Ok text = IsTrue (is_step words) × IsRun old new text
+IsDue words old new status.AuditNo text = ⊥
+IsDue words old new status.Usage text = (is_step words ≡ false) × (text ≡ usage_line)
+IsDue words old new status.Bad text = IsTrue (is_step words) × IsBad old new text
+IsDue words old new status.ReadFault text = ⊥
+IsDue words old new status.WriteFault text = ⊥
+IsDue words old new status.Memory text = ⊥
+
+-- all of a due text is written
+pub record WritesAll (due : List ℕ → Type 0) (old new : Option (List ℕ)) : Type 0 where
+  pub text : List ℕ
+  pub is_due : due text
+  pub written : Appends old new text
+
+-- a front of the due text of some status is written, and not all of it
+pub record WritesFront (due : Status → List ℕ → Type 0) (old new : Option (List ℕ)) : Type 0 where
+  pub status : Status
+  pub text : List ℕ
+  pub is_due : due status text
+  pub count : ℕ
+  pub short : count < length text
+  pub written : Appends old new (take count text)
+
+-- what the program writes at each status
+abbrev pub Writes : (Status → List ℕ → Type 0) → Option (List ℕ) → Option (List ℕ) → Status → Type 0
+Writes due old new status.Ok = WritesAll (due status.Ok) old new
+Writes due old new status.AuditNo = WritesAll (due status.AuditNo) old new
+Writes due old new status.Usage = WritesAll (due status.Usage) old new
+Writes due old new status.Bad = WritesAll (due status.Bad) old new
+Writes due old new status.ReadFault = Keeps old new
+Writes due old new status.WriteFault = WritesFront due old new
+Writes due old new status.Memory = Keeps old new

@@ -1,0 +1,166 @@
+ghost use Rattle.std.specs.Prelude.{◌≡◌, ◌∷◌, [], false, IsTrue, IfOk, IfErr, Err, string_bytes};
+ghost use Rattle.fs_io.specs.Causes.{Rose};
+ghost use Rattle.scenario.specs.Plan.{HasOneScript, IsShort};
+ghost use Rattle.fs3meta.specs.Top.{is_step, usage_line, bad_line, IsRunOf, IsDue, CallsFor, Writes};
+
+use crate::run::run;
+use fs_io::{ReadAllError, Sink, Source, read_all, write_all};
+use run_record::write_replies;
+use scenario::{Broken, Plan, ScenarioError, Script, read_scenario, too_long};
+use std::alloc::{AllocError, Global};
+
+/// How a run of the program ends. The numbers 0 to 6, in this order, are its exit statuses.
+#[derive(Clone, Copy, Debug, PartialEq, Eq)]
+pub enum Status {
+    Ok,
+    AuditNo,
+    Usage,
+    Bad,
+    ReadFault,
+    WriteFault,
+    Memory,
+}
+
+/// What is to be written, and the status that goes with it.
+#[derive(Debug, Drop)]
+struct Answer {
+    status: Status,
+    text: Vec<u8>,
+}
+
+/// Does what the words say, from the source to the sink, and always returns.
+///
+/// The words are the command line without the program's name. The whole text is made before its first byte is written.
+pub fn plain_main<I: Source, O: Sink>(
+    alloc: Global,
+    words: &[String],
+    input: &mut I,
+    output: &mut O,
+) -> Status
+    // What is written at each status. At `Ok` the source's bytes read as a plan, and the text is the header,
+    // a line for each operation with the plain tree's reply, and the counts; at `Bad` it names the first broken rule.
+    ensures writes { Writes (IsDue words.now (I.left input.old) (I.left input.new))
+        (O.written output.old) (O.written output.new) result }
+
+    // Words are looked at before anything is read.
+    ensures untouched { is_step words.now ≡ false → input.new ≡ input.old }
+    ensures read_words { result ≡ Status.ReadFault → IsTrue (is_step words.now) }
+
+    // The outside is blamed only where its own count rose in this call.
+    ensures read_cause { result ≡ Status.ReadFault → Rose (I.faults input.old) (I.faults input.new) }
+    ensures write_cause { result ≡ Status.WriteFault → Rose (O.faults output.old) (O.faults output.new) }
+{
+    match due_answer(alloc, words, input) {
+        Ok(answer) => match write_all(output, answer.text.as_slice()) {
+            Ok(()) => answer.status,
+            Err(_) => Status::WriteFault,
+        },
+        Err(ReadAllError::ReadFault) => Status::ReadFault,
+        Err(ReadAllError::Memory) => Status::Memory,
+        Err(ReadAllError::TooLong) => unreachable!(),
+    }
+}
+
+/// The text that is due, or why there is none.
+fn due_answer<I: Source>(
+    alloc: Global,
+    words: &[String],
+    input: &mut I,
+) -> Result<Answer, ReadAllError>
+    ensures due { IfOk result (λ a. IsDue words.now (I.left input.old) (I.left input.new) a.status a.text.items) }
+    ensures untouched { is_step words.now ≡ false → input.new ≡ input.old }
+    ensures words { result ≡ Err ReadAllError.ReadFault → IsTrue (is_step words.now) }
+    ensures fault { result ≡ Err ReadAllError.ReadFault → Rose (I.faults input.old) (I.faults input.new) }
+    ensures long { result ≡ Err ReadAllError.TooLong → ⊥ }
+{
+    if !is_step(words) {
+        return usage(alloc);
+    }
+    match read_all(alloc, input, 16_777_216) {
+        Ok(bytes) => step(alloc, bytes.as_slice()),
+        Err(ReadAllError::TooLong) => bad(alloc, too_long()),
+        Err(ReadAllError::ReadFault) => Err(ReadAllError::ReadFault),
+        Err(ReadAllError::Memory) => Err(ReadAllError::Memory),
+    }
+}
+
+fn is_step(words: &[String]) -> bool
+    ensures { result ≡ is_step words.now }
+{
+    match words {
+        [word] => word.as_str() == "step",
+        _ => false,
+    }
+}
+
+fn usage(alloc: Global) -> Result<Answer, ReadAllError>
+    ensures ok { IfOk result (λ a. (a.status ≡ Status.Usage) × (a.text.items ≡ usage_line)) }
+    ensures err { IfErr result (λ e. e ≡ ReadAllError.Memory) }
+{
+    match String::from_str(alloc, "usage: fs3meta check, step, run, audit, make\n") {
+        Ok(text) => Ok(Answer {
+            status: Status::Usage,
+            text: text.into_bytes(),
+        }),
+        Err(_) => Err(ReadAllError::Memory),
+    }
+}
+
+/// The answer to the whole input.
+fn step(alloc: Global, bytes: &[u8]) -> Result<Answer, ReadAllError>
+    ensures ok { IfOk result (λ a. CallsFor bytes.now a.status a.text.items) }
+    ensures err { IfErr result (λ e. e ≡ ReadAllError.Memory) }
+{
+    match read_scenario(alloc, bytes) {
+        Ok(plan) => replies(alloc, &plan),
+        Err(ScenarioError::BadScenario(broken)) => bad(alloc, broken),
+        Err(ScenarioError::Memory) => Err(ReadAllError::Memory),
+    }
+}
+
+fn only_script(plan: &Plan) -> &Script
+    requires { HasOneScript plan.now }
+    ensures alone { plan.now.clients ≡ result.now ∷ [] }
+    ensures short { IsShort result.now }
+{
+    &plan.clients.as_slice()[0]
+}
+
+/// The text of a plan's run.
+fn replies(alloc: Global, plan: &Plan) -> Result<Answer, ReadAllError>
+    requires { HasOneScript plan.now }
+    ensures ok { IfOk result (λ a. (a.status ≡ Status.Ok) × IsRunOf plan.now a.text.items) }
+    ensures err { IfErr result (λ e. e ≡ ReadAllError.Memory) }
+{
+    let Ok(run) = run(alloc, plan.config, only_script(plan)) else {
+        return Err(ReadAllError::Memory);
+    };
+    let Ok(text) = write_replies(alloc, &run) else {
+        return Err(ReadAllError::Memory);
+    };
+    Ok(Answer {
+        status: Status::Ok,
+        text,
+    })
+}
+
+fn bad(alloc: Global, broken: Broken) -> Result<Answer, ReadAllError>
+    ensures ok { IfOk result (λ a. (a.status ≡ Status.Bad) × (a.text.items ≡ bad_line broken)) }
+    ensures err { IfErr result (λ e. e ≡ ReadAllError.Memory) }
+{
+    let Ok(text) = bad_text(alloc, broken) else {
+        return Err(ReadAllError::Memory);
+    };
+    Ok(Answer {
+        status: Status::Bad,
+        text: text.into_bytes(),
+    })
+}
+
+fn bad_text(alloc: Global, broken: Broken) -> Result<String, AllocError>
+    ensures { IfOk result (λ text. string_bytes text ≡ bad_line broken) }
+{
+    let rule = broken.rule;
+    let place = broken.place;
+    format!(in alloc; "bad rule={rule} place={place}\n")
+}

@@ -1,0 +1,27 @@
+-- JSON values as lists, and what stands at their keys.
+use Rattle.std.specs.Prelude.{ℕ, List, [], ◌∷◌, Bool, false, Option, unwrap_or, option_map, option_and_then}
+use Rattle.std.specs.List.{list_any, list_all}
+use Rattle.std.specs.Str.{bytes_eq}
+use Rattle.serde_json.specs.Data.{Data, Items, no_items, item, Members, no_members, member}
+use Rattle.serde_json.specs.Find.{get, as_str, as_array, as_object}
+
+abbrev pub list_of : Items → List Data
+list_of no_items = []
+list_of (item d ds) = d ∷ list_of ds
+
+abbrev pub names_in : Members → List (List ℕ)
+names_in no_members = []
+names_in (member name d ms) = name ∷ names_in ms
+
+abbrev pub only_keys : List (List ℕ) → Members → Bool
+only_keys known ms = list_all (λ name. list_any (λ k. bytes_eq name k) known) (names_in ms)
+
+-- an object with no key but these
+abbrev pub has_only : List (List ℕ) → Data → Bool
+has_only known d = unwrap_or (option_map (only_keys known) (as_object d)) false
+
+abbrev pub text_at : List ℕ → Data → Option (List ℕ)
+text_at name d = option_and_then as_str (get name d)
+
+abbrev pub array_at : List ℕ → Data → Option (List Data)
+array_at name d = option_map list_of (option_and_then as_array (get name d))

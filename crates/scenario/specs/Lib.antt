@@ -1,0 +1,4 @@
+pub mod Broken
+pub mod Json
+pub mod Plan
+pub mod Scenario

@@ -1,0 +1,80 @@
+-- The plan that the bytes of a scenario read as, or the first rule that they break.
+use Rattle.std.specs.Prelude.{ℕ, ◌==◌, List, [], ◌∷◌, length, nat_le, nat_lt, Option, Some, None, option_and_then, Result, Ok, Err, codes, if◌then◌else◌}
+use Rattle.std.specs.Option.{ok_or}
+use Rattle.std.specs.Str.{bytes_eq, is_utf8}
+use Rattle.std.specs.Int.{w128, from_be_bytes}
+use Rattle.fs_base.specs.Config.{default_settings}
+use Rattle.fs_base.specs.Gives.{◌>>=◌, each_from}
+use Rattle.fs_base.specs.declared.call.Place.{Place}
+use Rattle.fs_base.specs.declared.ids.ClientId.{ClientId}
+use Rattle.serde_json.specs.Data.{Data}
+use Rattle.serde_json.specs.Read.{read}
+use Rattle.uuid.specs.Text.{parsed}
+use Rattle.uuid.specs.Parts.{is_nil_bytes}
+use Rattle.scenario.specs.Broken.{rule, not_built, need}
+use Rattle.scenario.specs.Json.{has_only, text_at, array_at}
+use Rattle.scenario.specs.declared.broken.Broken.{Broken}
+use Rattle.scenario.specs.declared.plan.Op.{Op}
+use Rattle.scenario.specs.declared.plan.Op.TheVariants as ops
+use Rattle.scenario.specs.declared.plan.Plan.{Plan}
+use Rattle.scenario.specs.declared.plan.Script.{Script}
+
+-- at most 16 MiB
+abbrev pub short_enough : List ℕ → Result (List ℕ) Broken
+short_enough bytes = if nat_lt 16777216 (length bytes) then Err (rule 1 16777216) else Ok bytes
+
+-- one JSON text, nested no deeper than 127
+unfoldable pub json_of : List ℕ → Result Data Broken
+json_of bytes = if is_utf8 bytes then ok_or (read bytes) (rule 2 0) else Err (rule 2 0)
+
+-- a path that starts at the root
+abbrev pub at_root : List ℕ → Place
+at_root path = record { base = 0; text = path }
+
+-- the mode 493 is rwxr-xr-x
+abbrev pub op_named : List ℕ → List ℕ → Option Op
+op_named name path =
+    if bytes_eq name (codes "mkdir") then Some (ops.Mkdir 0 (at_root path) 493 None)
+    else (if bytes_eq name (codes "lookup") then Some (ops.Lookup 0 (at_root path)) else None)
+
+unfoldable pub op_of : Data → Result Op Broken
+op_of d = do
+  keys ← need (has_only (codes "op" ∷ codes "path" ∷ []) d) not_built
+  name ← ok_or (text_at (codes "op") d) not_built
+  path ← ok_or (text_at (codes "path") d) not_built
+  fits ← need (nat_le (length path) 65535) not_built
+  ok_or (op_named name path) not_built
+
+abbrev pub ops_of : List Data → Result (List Op) Broken
+ops_of ds = each_from (λ _ d. op_of d) 0 ds
+
+-- the client of a text in any form of a UUID, but not the nil one
+abbrev pub id_in : List ℕ → Option ClientId
+id_in text = option_and_then (λ bytes. if is_nil_bytes bytes then None else Some (record { 0 = from_be_bytes w128 bytes })) (parsed text)
+
+unfoldable pub script_of : Data → Result Script Broken
+script_of d = do
+  keys ← need (has_only (codes "id" ∷ codes "ops" ∷ []) d) not_built
+  text ← ok_or (text_at (codes "id") d) not_built
+  id ← ok_or (id_in text) not_built
+  list ← ok_or (array_at (codes "ops") d) not_built
+  few ← need (nat_le (length list) 4000) not_built
+  steps ← ops_of list
+  Ok (record { id = id; ops = steps })
+
+abbrev pub scripts_of : List Data → Result (List Script) Broken
+scripts_of ds = each_from (λ _ d. script_of d) 0 ds
+
+unfoldable pub plan_of : Data → Result Plan Broken
+plan_of d = do
+  keys ← need (has_only (codes "clients" ∷ []) d) not_built
+  list ← ok_or (array_at (codes "clients") d) not_built
+  alone ← need (length list == 1) not_built
+  scripts ← scripts_of list
+  Ok (record { config = default_settings; clients = scripts })
+
+unfoldable pub scenario_of : List ℕ → Result Plan Broken
+scenario_of bytes = do
+  text ← short_enough bytes
+  d ← json_of text
+  plan_of d

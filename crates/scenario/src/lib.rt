@@ -1,0 +1,11 @@
+//! Scenarios: the bytes of a JSON object, and the plan that they read as or the first rule that they break.
+#![tactic(auto)]
+
+mod broken;
+mod json;
+mod plan;
+mod read;
+
+pub use broken::{Broken, ScenarioError, too_long};
+pub use plan::{Op, Plan, Script};
+pub use read::read_scenario;
