@@ -141,7 +141,7 @@ numbered_by rows T q mode dir name layout true h small e = (refl, tt)
 numbered_by rows T q mode dir name layout false h small e = (refl, record { id = refl; next = refl; room = room T q.server rows h e; dir = small })
 
 child_same : (rows : Rows) (T : Tree) (q : Request) (mode dir : ℕ) (name : List ℕ) (given : Option DefaultLayout) (o : Option Node) → Holds rows T → dir < 2 ^ 64
-    → Decides T q.server (add_child T q.server mode q.stamp dir name given o) (decide_child rows q mode given dir name o)
+    → Decides T q.server (add_child T q mode given dir name o) (decide_child rows q mode given dir name o)
 child_same rows T q mode dir name given None h small = (refl, tt)
 child_same rows T q mode dir name given (Some parent) h small =
     rw (h.numbers q.server) (numbered_by rows T q mode dir name (unwrap_or given (default_of parent.part)) (next_at T.next q.server == 4294967295) h small refl)
@@ -151,7 +151,7 @@ free_same T server None e d same = same
 free_same T server (Some id) e d same = (refl, tt)
 
 make_same : (rows : Rows) (T : Tree) (q : Request) (mode : ℕ) (given : Option DefaultLayout) (walked : Walked) → Holds rows T → IsSmall walked
-    → Decides T q.server (make_at T q.server mode q.stamp given walked) (decide_make rows q mode given walked)
+    → Decides T q.server (make_at T q mode given walked) (decide_make rows q mode given walked)
 make_same rows T q mode given (At id kind) h small = (refl, tt)
 make_same rows T q mode given (NoName id) h small = (refl, tt)
 make_same rows T q mode given (Stopped code) h small = (refl, tt)

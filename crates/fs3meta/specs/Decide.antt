@@ -4,6 +4,7 @@ use Rattle.std.specs.FinMap.{insert}
 use Rattle.fs_base.specs.declared.call.Call.{Call}
 use Rattle.fs_base.specs.declared.call.Call.TheVariants as calls
 use Rattle.fs_base.specs.declared.call.DefaultLayout.{DefaultLayout}
+use Rattle.fs_base.specs.declared.call.Place.{Place}
 use Rattle.fs_base.specs.declared.call.Request.{Request}
 use Rattle.fs_base.specs.declared.code.Code.{Code}
 use Rattle.fs_base.specs.declared.code.Code.TheVariants as codes
@@ -69,12 +70,16 @@ decide_make rows q mode given (Stopped code) = refused code
 decide_make rows q mode given (AtParent dir name) =
     decide_free (target_row rows dir name) (decide_child rows q mode given dir name (inode_row rows dir))
 
+abbrev pub decide_lookup : Rows → Place → Decision
+decide_lookup rows place = decide_path (path_of place.text) (λ path. Answer (found_of (rows_resolve rows place.base path NoFollow)))
+
+abbrev pub decide_mkdir : Config → Rows → Request → Place → ℕ → Option DefaultLayout → Decision
+decide_mkdir C rows q place mode given = decide_path (path_of place.text) (λ path.
+    if is_layout C given then decide_make rows q mode given (rows_resolve rows place.base path Parent) else refused codes.BadLayout)
+
 abbrev pub decide_call : Config → Rows → Request → Call → Decision
-decide_call C rows q (calls.Lookup place) = decide_path (path_of place.text) (λ path. Answer (found_of (rows_resolve rows place.base path NoFollow)))
-decide_call C rows q (calls.Mkdir place mode layout) = decide_path (path_of place.text) (λ path.
-    if is_layout C layout
-    then decide_make rows q mode layout (rows_resolve rows place.base path Parent)
-    else refused codes.BadLayout)
+decide_call C rows q (calls.Lookup place) = decide_lookup rows place
+decide_call C rows q (calls.Mkdir place mode layout) = decide_mkdir C rows q place mode layout
 
 abbrev pub decide : Config → Rows → Request → Decision
 decide C rows q = decide_call C rows q q.call

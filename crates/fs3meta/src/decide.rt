@@ -1,16 +1,10 @@
-ghost use Rattle.std.specs.Prelude.{◌≡◌, ◌<◌, IfOk, if◌then◌else◌};
-ghost use Rattle.fs_base.specs.Paths.{path_of};
-ghost use Rattle.fs_base.specs.declared.code.Code.TheVariants.{BadLayout};
-ghost use Rattle.fs3meta.specs.Decide.{rows_down, rows_resolve, refused, decide, decide_path, decide_child, decide_make};
+ghost use Rattle.std.specs.Prelude.{◌≡◌, ◌<◌, IfOk};
+ghost use Rattle.fs3meta.specs.Decide.{rows_down, rows_resolve, refused, decide, decide_lookup, decide_child, decide_make, decide_mkdir};
 ghost use Rattle.fs3meta.specs.Rows.{inode_row};
-ghost use Rattle.fs3meta.specs.declared.decide.Decision.TheVariants.{Answer};
-ghost use Rattle.tree_model.specs.Calls.{found_of, is_layout};
-ghost use Rattle.tree_model.specs.declared.walk.WalkEnd.TheVariants.{NoFollow, Parent};
 
 use crate::rows::Rows;
 use fs_base::{
-    Call, Code, Config, DefaultLayout, InodeId, Limit, Memory, Name, Path, PathError, Place, Reply,
-    Request,
+    Call, Code, Config, DefaultLayout, InodeId, Limit, Memory, Name, Path, Place, Reply, Request,
 };
 use std::alloc::Global;
 use tree_model::{Node, NodePart, WalkEnd, Walked, is_layout};
@@ -87,17 +81,14 @@ fn resolve(
 }
 
 fn decide_lookup(alloc: Global, rows: &Rows, place: &Place) -> Result<Decision, Memory>
-    ensures { IfOk result (λ decision. decision ≡
-        decide_path (path_of place.now.text) (λ path. Answer (found_of (rows_resolve rows.now place.now.base path NoFollow)))) }
+    ensures { IfOk result (λ decision. decision ≡ decide_lookup rows.now place.now) }
 {
-    match Path::read(alloc, place.text.as_slice()) {
+    match place.path(alloc)? {
         Ok(path) => {
             let walked = resolve(alloc, rows, place.base, &path, WalkEnd::NoFollow)?;
             Ok(Decision::Answer(walked.found()))
         }
-        Err(PathError::BadPath) => Ok(refused(Code::BadPath)),
-        Err(PathError::BadName) => Ok(refused(Code::BadName)),
-        Err(PathError::Memory) => Err(Memory),
+        Err(code) => Ok(refused(code)),
     }
 }
 
@@ -157,29 +148,6 @@ fn decide_make(
     }
 }
 
-fn decide_at(
-    alloc: Global,
-    config: &Config,
-    rows: &Rows,
-    request: &Request,
-    base: InodeId,
-    path: &Path,
-    mode: u16,
-    given: Option<DefaultLayout>,
-) -> Result<Decision, Memory>
-    requires { request.now.server < 16 }
-    ensures { IfOk result (λ decision. decision ≡
-        (if is_layout config.now given
-        then decide_make rows.now request.now mode given (rows_resolve rows.now base path.now Parent)
-        else refused BadLayout)) }
-{
-    if !is_layout(config, given) {
-        return Ok(refused(Code::BadLayout));
-    }
-    let walked = resolve(alloc, rows, base, path, WalkEnd::Parent)?;
-    decide_make(alloc, rows, request, mode, given, walked)
-}
-
 fn decide_mkdir(
     alloc: Global,
     config: &Config,
@@ -190,18 +158,17 @@ fn decide_mkdir(
     given: Option<DefaultLayout>,
 ) -> Result<Decision, Memory>
     requires { request.now.server < 16 }
-    ensures { IfOk result (λ decision. decision ≡
-        decide_path (path_of place.now.text) (λ path.
-        if is_layout config.now given
-        then decide_make rows.now request.now mode given (rows_resolve rows.now place.now.base path Parent)
-        else refused BadLayout)) }
+    ensures { IfOk result (λ decision. decision ≡ decide_mkdir config.now rows.now request.now place.now mode given) }
 {
-    match Path::read(alloc, place.text.as_slice()) {
-        Ok(path) => decide_at(alloc, config, rows, request, place.base, &path, mode, given),
-        Err(PathError::BadPath) => Ok(refused(Code::BadPath)),
-        Err(PathError::BadName) => Ok(refused(Code::BadName)),
-        Err(PathError::Memory) => Err(Memory),
+    let path = match place.path(alloc)? {
+        Ok(path) => path,
+        Err(code) => return Ok(refused(code)),
+    };
+    if !is_layout(config, given) {
+        return Ok(refused(Code::BadLayout));
     }
+    let walked = resolve(alloc, rows, place.base, &path, WalkEnd::Parent)?;
+    decide_make(alloc, rows, request, mode, given, walked)
 }
 
 /// What the rows say of a request.

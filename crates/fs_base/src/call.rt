@@ -1,8 +1,11 @@
 ghost use Rattle.std.specs.Prelude.{◌≡◌, ◌<◌, ◌^◌, IfOk};
+ghost use Rattle.fs_base.specs.Paths.{path_of};
 
+use crate::code::Code;
 use crate::ids::{ClientId, InodeId};
 use crate::items::Text;
 use crate::memory::Memory;
+use crate::path::{Path, PathError};
 use std::alloc::Global;
 
 /// A path text, and the directory that it starts at unless it begins with `/`.
@@ -13,6 +16,18 @@ pub struct Place {
 }
 
 impl Place {
+    /// The path that the text reads as, or why it is none.
+    pub fn path(&self, alloc: Global) -> Result<Result<Path, Code>, Memory>
+        ensures { IfOk result (λ path. path ≡ path_of self.now.text) }
+    {
+        match Path::read(alloc, self.text.as_slice()) {
+            Ok(path) => Ok(Ok(path)),
+            Err(PathError::BadPath) => Ok(Err(Code::BadPath)),
+            Err(PathError::BadName) => Ok(Err(Code::BadName)),
+            Err(PathError::Memory) => Err(Memory),
+        }
+    }
+
     pub fn try_clone(&self, alloc: Global) -> Result<Place, Memory>
         ensures copy { IfOk result (λ place. place ≡ self.now) }
         ensures base { self.now.base < 2 ^ 36 }

@@ -4,6 +4,7 @@ use Rattle.std.specs.FinMap.{get, insert}
 use Rattle.fs_base.specs.declared.call.Call.{Call}
 use Rattle.fs_base.specs.declared.call.Call.TheVariants as calls
 use Rattle.fs_base.specs.declared.call.DefaultLayout.{DefaultLayout}
+use Rattle.fs_base.specs.declared.call.Place.{Place}
 use Rattle.fs_base.specs.declared.call.Request.{Request}
 use Rattle.fs_base.specs.declared.code.Code.{Code}
 use Rattle.fs_base.specs.declared.code.Code.TheVariants as codes
@@ -45,13 +46,21 @@ found_of (Stopped code) = Refused code
 found_of (AtParent id name) = Refused codes.NotDir
 found_of (NoName id) = Refused codes.NotDir
 
+abbrev pub lookup : Tree → Place → Effect
+lookup T place = on_path (path_of place.text) (λ path. Leaves (found_of (resolve T place.base path NoFollow)))
+
 -- ---- mkdir
 
 -- the number-th inode of a server
 abbrev pub id_of : ℕ → ℕ → ℕ
 id_of number server = 16 * number + server
 
--- a node, and the entry that leads to it
+-- a given default layout is looked at before the tree
+abbrev pub is_layout : Config → Option DefaultLayout → Bool
+is_layout C None = true
+is_layout C (Some given) = admits C given
+
+-- the node with the server's next number, and the entry that leads to it
 abbrev pub with_child : Tree → ℕ → ℕ → List ℕ → Node → Tree
 with_child T server dir name node =
     let number = next_at T.next server in
@@ -61,46 +70,42 @@ with_child T server dir name node =
       next = insert T.next server (number + 1);
     }
 
--- a given default layout is looked at before the tree
-abbrev pub is_layout : Config → Option DefaultLayout → Bool
-is_layout C None = true
-is_layout C (Some given) = admits C given
-
 -- the greatest number is never given out
-abbrev pub add_numbered : Tree → ℕ → ℕ → ℕ → ℕ → List ℕ → DefaultLayout → Effect
-add_numbered T server mode stamp dir name layout =
-    if next_at T.next server == 4294967295
+abbrev pub add_numbered : Tree → Request → ℕ → ℕ → List ℕ → DefaultLayout → Effect
+add_numbered T q mode dir name layout =
+    if next_at T.next q.server == 4294967295
     then refuses (codes.AtLimit Inodes)
-    else Makes (with_child T server dir name (directory_of mode stamp layout)) (Made (id_of (next_at T.next server) server))
+    else Makes (with_child T q.server dir name (directory_of mode q.stamp layout)) (Made (id_of (next_at T.next q.server) q.server))
 
 abbrev pub default_of : NodePart → DefaultLayout
 default_of (Dir layout) = layout
 
 -- the given default layout, else the parent's
-abbrev pub add_child : Tree → ℕ → ℕ → ℕ → ℕ → List ℕ → Option DefaultLayout → Option Node → Effect
-add_child T server mode stamp dir name given None = refuses codes.NotDir
-add_child T server mode stamp dir name given (Some parent) = add_numbered T server mode stamp dir name (unwrap_or given (default_of parent.part))
+abbrev pub add_child : Tree → Request → ℕ → Option DefaultLayout → ℕ → List ℕ → Option Node → Effect
+add_child T q mode given dir name None = refuses codes.NotDir
+add_child T q mode given dir name (Some parent) = add_numbered T q mode dir name (unwrap_or given (default_of parent.part))
 
 abbrev pub unless_there : Option ℕ → Effect → Effect
 unless_there None effect = effect
 unless_there (Some id) effect = refuses codes.Exists
 
 -- a path without a name says Exists, as does a name that is taken
-abbrev pub make_at : Tree → ℕ → ℕ → ℕ → Option DefaultLayout → Walked → Effect
-make_at T server mode stamp given (At id kind) = refuses codes.Exists
-make_at T server mode stamp given (NoName id) = refuses codes.Exists
-make_at T server mode stamp given (Stopped code) = refuses code
-make_at T server mode stamp given (AtParent dir name) =
-    unless_there (get T.entries (dir, name)) (add_child T server mode stamp dir name given (get T.nodes dir))
+abbrev pub make_at : Tree → Request → ℕ → Option DefaultLayout → Walked → Effect
+make_at T q mode given (At id kind) = refuses codes.Exists
+make_at T q mode given (NoName id) = refuses codes.Exists
+make_at T q mode given (Stopped code) = refuses code
+make_at T q mode given (AtParent dir name) =
+    unless_there (get T.entries (dir, name)) (add_child T q mode given dir name (get T.nodes dir))
+
+abbrev pub mkdir : Config → Tree → Request → Place → ℕ → Option DefaultLayout → Effect
+mkdir C T q place mode given = on_path (path_of place.text) (λ path.
+    if is_layout C given then make_at T q mode given (resolve T place.base path Parent) else refuses codes.BadLayout)
 
 -- ---- the table
 
 abbrev pub effect_of : Config → Tree → Request → Call → Effect
-effect_of C T q (calls.Lookup place) = on_path (path_of place.text) (λ path. Leaves (found_of (resolve T place.base path NoFollow)))
-effect_of C T q (calls.Mkdir place mode layout) = on_path (path_of place.text) (λ path.
-    if is_layout C layout
-    then make_at T q.server mode q.stamp layout (resolve T place.base path Parent)
-    else refuses codes.BadLayout)
+effect_of C T q (calls.Lookup place) = lookup T place
+effect_of C T q (calls.Mkdir place mode layout) = mkdir C T q place mode layout
 
 abbrev pub effect : Config → Tree → Request → Effect
 effect C T q = effect_of C T q q.call

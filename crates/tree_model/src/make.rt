@@ -1,19 +1,12 @@
-ghost use Rattle.std.specs.Prelude.{◌≡◌, ◌<◌, IfOk, OnOk, OnErr, if◌then◌else◌};
+ghost use Rattle.std.specs.Prelude.{◌≡◌, ◌<◌, IfOk, OnOk, OnErr};
 ghost use Rattle.std.specs.FinMap.{get};
-ghost use Rattle.fs_base.specs.Paths.{path_of};
-ghost use Rattle.fs_base.specs.declared.code.Code.TheVariants.{BadLayout};
-ghost use Rattle.tree_model.specs.Calls.{is_layout, unless_there, add_child, make_at, refuses, on_path, settle};
+ghost use Rattle.tree_model.specs.Calls.{is_layout, unless_there, add_child, make_at, mkdir, settle};
 ghost use Rattle.tree_model.specs.Making.{IsPlan, added};
-ghost use Rattle.tree_model.specs.Walk.{resolve};
-ghost use Rattle.tree_model.specs.declared.walk.WalkEnd.TheVariants.{Parent};
 
 use crate::node::{Node, NodePart};
 use crate::tree::Tree;
 use crate::walk::{WalkEnd, Walked};
-use fs_base::{
-    Code, Config, DefaultLayout, InodeId, Limit, Memory, Name, Path, PathError, Place, Reply,
-    Request,
-};
+use fs_base::{Code, Config, DefaultLayout, InodeId, Limit, Memory, Name, Place, Reply, Request};
 use std::alloc::Global;
 
 /// A new node with its entry, and the number that its server gave.
@@ -46,15 +39,14 @@ impl Tree {
     /// A new directory under this name, where nothing stands there.
     fn plan_child(
         &self,
-        server: u8,
-        stamp: u64,
+        request: &Request,
         mode: u16,
         given: Option<DefaultLayout>,
         key: (u64, Name),
     ) -> Plan
-        requires { server < 16 }
-        ensures { IsPlan self.now.tree server
-            (unless_there (get self.now.tree.entries key) (add_child self.now.tree server mode stamp key.0 key.1 given (get self.now.tree.nodes key.0)))
+        requires { request.now.server < 16 }
+        ensures { IsPlan self.now.tree request.now.server
+            (unless_there (get self.now.tree.entries key) (add_child self.now.tree request.now mode given key.0 key.1 (get self.now.tree.nodes key.0)))
             result }
     {
         if self.entry(&key).is_some() {
@@ -64,12 +56,12 @@ impl Tree {
             return Plan::Refuse(Code::NotDir);
         };
         let NodePart::Dir { layout } = parent.part;
-        let number = self.next_number(server);
+        let number = self.next_number(request.server);
         if number == u32::MAX {
             return Plan::Refuse(Code::AtLimit(Limit::Inodes));
         }
-        let id = InodeId::new(16 * u64::from(number) + u64::from(server));
-        let node = Node::directory(mode, stamp, given.unwrap_or(layout));
+        let id = InodeId::new(16 * u64::from(number) + u64::from(request.server));
+        let node = Node::directory(mode, request.stamp, given.unwrap_or(layout));
         Plan::Add(Child {
             key,
             number,
@@ -80,45 +72,20 @@ impl Tree {
 
     fn plan_at(
         &self,
-        server: u8,
-        stamp: u64,
+        request: &Request,
         mode: u16,
         given: Option<DefaultLayout>,
         walked: Walked,
     ) -> Plan
-        requires { server < 16 }
-        ensures { IsPlan self.now.tree server (make_at self.now.tree server mode stamp given walked) result }
+        requires { request.now.server < 16 }
+        ensures { IsPlan self.now.tree request.now.server (make_at self.now.tree request.now mode given walked) result }
     {
         match walked {
             Walked::At(_, _) => Plan::Refuse(Code::Exists),
             Walked::NoName(_) => Plan::Refuse(Code::Exists),
             Walked::Stopped(code) => Plan::Refuse(code),
-            Walked::AtParent(dir, name) => {
-                self.plan_child(server, stamp, mode, given, (dir.get(), name))
-            }
+            Walked::AtParent(dir, name) => self.plan_child(request, mode, given, (dir.get(), name)),
         }
-    }
-
-    fn plan_path(
-        &self,
-        alloc: Global,
-        request: &Request,
-        base: InodeId,
-        path: &Path,
-        mode: u16,
-        given: Option<DefaultLayout>,
-    ) -> Result<Plan, Memory>
-        requires { request.now.server < 16 }
-        ensures { IfOk result (IsPlan self.now.tree request.now.server
-            (if is_layout self.now.config given
-            then make_at self.now.tree request.now.server mode request.now.stamp given (resolve self.now.tree base path.now Parent)
-            else refuses BadLayout)) }
-    {
-        if !is_layout(&self.config, given) {
-            return Ok(Plan::Refuse(Code::BadLayout));
-        }
-        let walked = self.resolve(alloc, base, path, WalkEnd::Parent)?;
-        Ok(self.plan_at(request.server, request.stamp, mode, given, walked))
     }
 
     fn plan_mkdir(
@@ -130,18 +97,17 @@ impl Tree {
         given: Option<DefaultLayout>,
     ) -> Result<Plan, Memory>
         requires { request.now.server < 16 }
-        ensures { IfOk result (IsPlan self.now.tree request.now.server
-            (on_path (path_of place.now.text) (λ path.
-            if is_layout self.now.config given
-            then make_at self.now.tree request.now.server mode request.now.stamp given (resolve self.now.tree place.now.base path Parent)
-            else refuses BadLayout))) }
+        ensures { IfOk result (IsPlan self.now.tree request.now.server (mkdir self.now.config self.now.tree request.now place.now mode given)) }
     {
-        match Path::read(alloc, place.text.as_slice()) {
-            Ok(path) => self.plan_path(alloc, request, place.base, &path, mode, given),
-            Err(PathError::BadPath) => Ok(Plan::Refuse(Code::BadPath)),
-            Err(PathError::BadName) => Ok(Plan::Refuse(Code::BadName)),
-            Err(PathError::Memory) => Err(Memory),
+        let path = match place.path(alloc)? {
+            Ok(path) => path,
+            Err(code) => return Ok(Plan::Refuse(code)),
+        };
+        if !is_layout(&self.config, given) {
+            return Ok(Plan::Refuse(Code::BadLayout));
         }
+        let walked = self.resolve(alloc, place.base, &path, WalkEnd::Parent)?;
+        Ok(self.plan_at(request, mode, given, walked))
     }
 
     /// Puts a child in, all or nothing.
@@ -186,12 +152,7 @@ impl Tree {
         given: Option<DefaultLayout>,
     ) -> Result<Reply, Memory>
         requires { request.now.server < 16 }
-        ensures ok { IfOk result (λ reply. settle self.old.tree
-            (on_path (path_of place.now.text) (λ path.
-            if is_layout self.old.config given
-            then make_at self.old.tree request.now.server mode request.now.stamp given (resolve self.old.tree place.now.base path Parent)
-            else refuses BadLayout))
-            ≡ (self.new.tree, reply)) }
+        ensures ok { IfOk result (λ reply. settle self.old.tree (mkdir self.old.config self.old.tree request.now place.now mode given) ≡ (self.new.tree, reply)) }
         ensures config { self.new.config ≡ self.old.config }
         ensures err { OnErr result (self.new ≡ self.old) }
     {
