@@ -1,5 +1,5 @@
 -- The text that is due, and what was written.
-use Rattle.std.proofs.Common.{◌≡◌, ℕ, ◌<◌, List, Bool, true, Option, Some, None, sym, subst, refl, inl, inr}
+use Rattle.std.proofs.Common.{◌≡◌, ℕ, List, true, Option, Some, None, sym, subst, refl, inl, inr}
 use Rattle.std.specs.Prelude.{Ok, Err, String}
 use Rattle.std.specs.Io.KnownBytes.{Appends, Keeps}
 use Rattle.std.specs.declared.alloc.Global.{Global}

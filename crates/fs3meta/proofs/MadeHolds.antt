@@ -1,6 +1,5 @@
 -- The rows with a new directory are those of the tree with it.
-use Rattle.std.proofs.Common.{◌≡◌, ◌≢◌, ℕ, ◌+◌, ◌*◌, ◌<◌, ◌≤◌, ◌^◌, List, [], Option, Some, None, refl, sym, ap, ◌∙◌, arith, subst, inl, inr}
-use Rattle.std.specs.Prelude.{option_and_then, unwrap_or}
+use Rattle.std.proofs.Common.{◌≡◌, ◌≢◌, ℕ, ◌<◌, ◌≤◌, ◌^◌, List, [], Some, refl, sym, ap, ◌∙◌, arith, subst, inl, inr}
 use Rattle.std.specs.FinMap.{get, insert}
 use Rattle.fs_base.specs.declared.reply.Reply.{Reply}
 use Rattle.key_schema.specs.Keys.{spelled_key, IsSpellable}
@@ -16,7 +15,7 @@ use Rattle.fs3meta.specs.declared.decide.Decision.TheVariants.{Answer, Make}
 use Rattle.fs3meta.specs.declared.rows.Plain.{Plain}
 use Rattle.fs3meta.specs.declared.rows.Plain.TheVariants as plains
 use Rattle.fs3meta.specs.declared.rows.Rows.{Rows}
-use Rattle.fs3meta.specs.Rows.{as_inode, as_target, as_number, inode_row, target_row, number_row}
+use Rattle.fs3meta.specs.Rows.{inode_row, target_row, number_row}
 use Rattle.fs3meta.specs.Decide.{rows_with_child, rows_after, reply_of}
 use Rattle.fs3meta.specs.Holds.{Holds}
 use Rattle.fs3meta.proofs.SameDecisions.{does, IsNext, CanBeDone, Decides}

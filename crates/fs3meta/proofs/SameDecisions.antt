@@ -1,11 +1,10 @@
 -- What the rows of a tree say of a request is what the tree says.
-use Rattle.std.proofs.Common.{◌≡◌, ℕ, ◌+◌, ◌*◌, ◌==◌, ◌||◌, ◌<◌, ◌≤◌, ◌^◌, List, [], ◌∷◌, Bool, true, false, cond, Option, Some, None, Ok, Err, refl, sym, ap, ◌∙◌, arith}
+use Rattle.std.proofs.Common.{◌≡◌, ℕ, ◌+◌, ◌==◌, ◌||◌, ◌<◌, ◌^◌, List, [], ◌∷◌, Bool, true, false, cond, Option, Some, None, Ok, Err, refl, arith}
 use Rattle.std.specs.Prelude.{Result, unwrap_or}
 use Rattle.std.specs.FinMap.{get, insert}
 use Rattle.fs_base.specs.declared.call.Call.{Call}
 use Rattle.fs_base.specs.declared.call.Call.TheVariants as calls
 use Rattle.fs_base.specs.declared.call.DefaultLayout.{DefaultLayout}
-use Rattle.fs_base.specs.declared.call.Place.{Place}
 use Rattle.fs_base.specs.declared.call.Request.{Request}
 use Rattle.fs_base.specs.declared.code.Code.{Code}
 use Rattle.fs_base.specs.declared.code.Code.TheVariants as codes
@@ -14,7 +13,7 @@ use Rattle.fs_base.specs.declared.config.Config.{Config}
 use Rattle.fs_base.specs.declared.path.Path.{Path}
 use Rattle.fs_base.specs.declared.reply.Reply.TheVariants.{Made}
 use Rattle.fs_base.specs.Paths.{path_of}
-use Rattle.tree_model.specs.Calls.{Effect, Leaves, Makes, id_of, is_layout, default_of, on_path, add_numbered, add_child, unless_there, make_at, refuses, with_child, effect_of, effect}
+use Rattle.tree_model.specs.Calls.{Effect, Leaves, Makes, id_of, is_layout, default_of, on_path, add_child, unless_there, make_at, refuses, with_child, effect_of, effect}
 use Rattle.tree_model.specs.Tree.{Tree, next_at, directory_of}
 use Rattle.tree_model.specs.Walk.{in_part, in_directory, ends_at, is_last_of_parent, at_entry, from_base, down, resolve}
 use Rattle.tree_model.specs.declared.node.Node.{Node}
@@ -28,8 +27,8 @@ use Rattle.fs3meta.specs.declared.decide.Child.{Child}
 use Rattle.fs3meta.specs.declared.decide.Decision.{Decision}
 use Rattle.fs3meta.specs.declared.decide.Decision.TheVariants.{Answer, Make}
 use Rattle.fs3meta.specs.declared.rows.Rows.{Rows}
-use Rattle.fs3meta.specs.Rows.{inode_row, target_row, number_row}
-use Rattle.fs3meta.specs.Decide.{rows_down, rows_resolve, refused, decide, decide_path, decide_number, decide_child, decide_free, decide_make, decide_call}
+use Rattle.fs3meta.specs.Rows.{inode_row}
+use Rattle.fs3meta.specs.Decide.{rows_down, rows_resolve, refused, decide, decide_path, decide_child, decide_free, decide_make, decide_call}
 use Rattle.fs3meta.specs.Holds.{Holds, HasBase}
 
 -- ---- the walk
