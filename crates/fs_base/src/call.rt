@@ -28,6 +28,7 @@ impl Place {
         }
     }
 
+    /// An equal place of its own.
     pub fn try_clone(&self, alloc: Global) -> Result<Place, Memory>
         ensures copy { IfOk result (λ place. place ≡ self.now) }
         ensures base { self.now.base < 2 ^ 36 }

@@ -1,4 +1,4 @@
-ghost use Rattle.std.specs.Prelude.{◌≡◌, ◌↔◌, IsSome, IfSome};
+ghost use Rattle.std.specs.Prelude.{◌≡◌, ◌≤◌, ◌↔◌, IsSome, IfSome};
 ghost use Rattle.fs_base.specs.Config.{IsConfig, default_settings, admits};
 
 use crate::call::DefaultLayout;
@@ -89,31 +89,41 @@ impl Config {
     }
 
     pub fn servers(&self) -> u8
-        ensures { result ≡ self.now.servers }
+        ensures value { result ≡ self.now.servers }
+        ensures from { 1 ≤ result }
+        ensures to { result ≤ 16 }
     {
         self.servers
     }
 
     pub fn nodes(&self) -> u8
-        ensures { result ≡ self.now.nodes }
+        ensures value { result ≡ self.now.nodes }
+        ensures from { 1 ≤ result }
+        ensures to { result ≤ 16 }
     {
         self.nodes
     }
 
     pub fn chains(&self) -> u16
-        ensures { result ≡ self.now.chains }
+        ensures value { result ≡ self.now.chains }
+        ensures from { 1 ≤ result }
+        ensures to { result ≤ 256 }
     {
         self.chains
     }
 
     pub fn chunk(&self) -> u32
-        ensures { result ≡ self.now.chunk }
+        ensures value { result ≡ self.now.chunk }
+        ensures from { 1 ≤ result }
+        ensures to { result ≤ 4194304 }
     {
         self.chunk
     }
 
     pub fn stripe(&self) -> u16
-        ensures { result ≡ self.now.stripe }
+        ensures value { result ≡ self.now.stripe }
+        ensures from { 1 ≤ result }
+        ensures to { result ≤ self.now.chains }
     {
         self.stripe
     }

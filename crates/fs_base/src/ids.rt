@@ -48,6 +48,7 @@ impl InodeId {
         }
     }
 
+    /// The number.
     pub fn get(self) -> u64
         ensures value { result ≡ self }
         ensures bound { self < 2 ^ 36 }

@@ -10,7 +10,10 @@ pub enum Kind {
 /// What a call is answered.
 #[derive(Clone, Copy, Debug, PartialEq, Eq)]
 pub enum Reply {
+    /// The new inode.
     Made(InodeId),
+    /// What stands at the place.
     Found(InodeId, Kind),
+    /// Nothing was changed.
     Refused(Code),
 }

@@ -27,6 +27,7 @@ impl<V> Model for ByNumber<V> {
 }
 
 impl<V> ByNumber<V> {
+    /// A map without keys.
     pub fn new(alloc: Global) -> ByNumber<V>
         ensures { result ≡ map.empty }
     {
@@ -35,6 +36,7 @@ impl<V> ByNumber<V> {
         }
     }
 
+    /// The value at the key.
     pub fn get(&self, key: u64) -> Option<&V>
         ensures { option_copied result ≡ map.get self.now key }
     {
@@ -95,6 +97,7 @@ impl<V> Model for ByName<V> {
 }
 
 impl<V> ByName<V> {
+    /// A map without keys.
     pub fn new(alloc: Global) -> ByName<V>
         ensures { result ≡ map.empty }
     {
@@ -103,6 +106,7 @@ impl<V> ByName<V> {
         }
     }
 
+    /// The value at the key.
     pub fn get(&self, key: &(u64, Name)) -> Option<&V>
         ensures { option_copied result ≡ map.get self.now key.now }
     {

@@ -9,16 +9,22 @@ use std::alloc::Global;
 /// What a call wants of a walk: the node at its end, or the directory that holds the last name.
 #[derive(Clone, Copy, Debug, PartialEq, Eq)]
 pub enum WalkEnd {
+    /// The node that the last name leads to.
     NoFollow,
+    /// The directory that the last name is in.
     Parent,
 }
 
 /// What a walk comes to.
 #[derive(Debug, Drop)]
 pub enum Walked {
+    /// At a node.
     At(InodeId, Kind),
+    /// At a directory, before the last name.
     AtParent(InodeId, Name),
+    /// At a directory, where a last name was wanted and there is none.
     NoName(InodeId),
+    /// No further, and why.
     Stopped(Code),
 }
 
