@@ -3,6 +3,7 @@ use Rattle.std.specs.Prelude.{◌≡◌, ◌⊎◌, ℕ, ◌<◌, List, [], ◌�
 use Rattle.std.specs.Str.{bytes_eq}
 use Rattle.std.specs.Io.KnownBytes.{Appends, Consumes, IsAtEnd, Keeps}
 use Rattle.std.specs.declared.alloc.Global.{Global}
+use Rattle.fs_io.specs.Causes.{Rose}
 use Rattle.fs_io.specs.Reading.{ReadsToEnd}
 use Rattle.run_record.specs.Replies.{replies_text}
 use Rattle.run_record.specs.Words.{line, setting}
@@ -92,3 +93,23 @@ Writes due old new status.Bad = WritesAll (due status.Bad) old new
 Writes due old new status.ReadFault = Keeps old new
 Writes due old new status.WriteFault = WritesFront due old new
 Writes due old new status.Memory = Keeps old new
+
+-- a read that failed is told: the source's count of faults rose there, and else it is as it was
+abbrev pub TellsReadFault : ℕ → ℕ → Status → Type 0
+TellsReadFault before now status.Ok = now ≡ before
+TellsReadFault before now status.AuditNo = now ≡ before
+TellsReadFault before now status.Usage = now ≡ before
+TellsReadFault before now status.Bad = now ≡ before
+TellsReadFault before now status.ReadFault = Rose before now
+TellsReadFault before now status.WriteFault = now ≡ before
+TellsReadFault before now status.Memory = now ≡ before
+
+-- a write that failed is told likewise
+abbrev pub TellsWriteFault : ℕ → ℕ → Status → Type 0
+TellsWriteFault before now status.Ok = now ≡ before
+TellsWriteFault before now status.AuditNo = now ≡ before
+TellsWriteFault before now status.Usage = now ≡ before
+TellsWriteFault before now status.Bad = now ≡ before
+TellsWriteFault before now status.ReadFault = now ≡ before
+TellsWriteFault before now status.WriteFault = Rose before now
+TellsWriteFault before now status.Memory = now ≡ before

@@ -1,7 +1,7 @@
 ghost use Rattle.std.specs.Prelude.{◌≡◌, ◌∷◌, [], false, IsTrue, IfOk, IfErr, Err, string_bytes};
-ghost use Rattle.fs_io.specs.Causes.{Rose};
+ghost use Rattle.fs_io.specs.Reading.{TellsFault};
 ghost use Rattle.scenario.specs.Plan.{HasOneScript, IsShort};
-ghost use Rattle.fs3meta.specs.Top.{is_step, usage_line, bad_line, IsRunOf, IsDue, CallsFor, Writes};
+ghost use Rattle.fs3meta.specs.Top.{is_step, usage_line, bad_line, IsRunOf, IsDue, CallsFor, TellsReadFault, TellsWriteFault, Writes};
 
 use crate::run::run;
 use fs_io::{ReadAllError, Sink, Source, read_all, write_all};
@@ -46,9 +46,9 @@ pub fn plain_main<I: Source, O: Sink>(
     ensures untouched { is_step words.now ≡ false → input.new ≡ input.old }
     ensures read_words { result ≡ Status.ReadFault → IsTrue (is_step words.now) }
 
-    // The outside is blamed only where its own count rose in this call.
-    ensures read_cause { result ≡ Status.ReadFault → Rose (I.faults input.old) (I.faults input.new) }
-    ensures write_cause { result ≡ Status.WriteFault → Rose (O.faults output.old) (O.faults output.new) }
+    // The outside is blamed only where its own count rose in this call, and what failed is never passed over.
+    ensures read_cause { TellsReadFault (I.faults input.old) (I.faults input.new) result }
+    ensures write_cause { TellsWriteFault (O.faults output.old) (O.faults output.new) result }
 {
     match due_answer(alloc, words, input) {
         Ok(answer) => match write_all(output, answer.text.as_slice()) {
@@ -70,7 +70,7 @@ fn due_answer<I: Source>(
     ensures due { IfOk result (λ a. IsDue words.now (I.left input.old) (I.left input.new) a.status a.text.items) }
     ensures untouched { is_step words.now ≡ false → input.new ≡ input.old }
     ensures words { result ≡ Err ReadAllError.ReadFault → IsTrue (is_step words.now) }
-    ensures fault { result ≡ Err ReadAllError.ReadFault → Rose (I.faults input.old) (I.faults input.new) }
+    ensures fault { TellsFault (I.faults input.old) (I.faults input.new) result }
     ensures long { result ≡ Err ReadAllError.TooLong → ⊥ }
 {
     if !is_step(words) {

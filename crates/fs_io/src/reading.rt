@@ -1,6 +1,5 @@
 ghost use Rattle.std.specs.Prelude.{◌≡◌, ◌≤◌, IfOk, Err};
-ghost use Rattle.fs_io.specs.Causes.{Rose};
-ghost use Rattle.fs_io.specs.Reading.{ReadsToEnd, PassesLimit, StopsWithin};
+ghost use Rattle.fs_io.specs.Reading.{ReadsToEnd, PassesLimit, StopsWithin, TellsFault};
 
 use crate::traits::Source;
 use std::alloc::Global;
@@ -31,9 +30,8 @@ pub fn read_all<S: Source>(
     ensures whole { IfOk result
         (λ v. ReadsToEnd (S.left source.old) (S.left source.new) v.items limit) }
 
-    // A fault has its cause.
-    ensures fault { result ≡ Err ReadAllError.ReadFault
-        → Rose (S.faults source.old) (S.faults source.new) }
+    // A fault is told exactly where the count rose.
+    ensures fault { TellsFault (S.faults source.old) (S.faults source.new) result }
 
     // `TooLong` comes exactly where more bytes came than the limit.
     ensures long { result ≡ Err ReadAllError.TooLong

@@ -1,4 +1,4 @@
-ghost use Rattle.std.specs.Prelude.{◌≡◌, ◌<◌, IfOk, length};
+ghost use Rattle.std.specs.Prelude.{◌≡◌, ◌<◌, IfOk, OnOk, length};
 ghost use Rattle.std.specs.Io.{ReadsAtMost, WritesAtMost};
 ghost use Rattle.std.specs.Io.KnownBytes.{ReadConsumes, WriteAppends};
 ghost use Rattle.fs_io.specs.Causes.{HasCause, count_after};
@@ -37,6 +37,7 @@ impl<R: Read> Source for StdSource<R> {
         ensures bytes { ReadConsumes
             (R.remaining (reader_of self.old)) (R.remaining (reader_of self.new)) result into.new }
         ensures cause { HasCause (read_faults self.old) (read_faults self.new) result }
+        ensures quiet { OnOk result (read_faults self.new ≡ read_faults self.old) }
 
         // Each error raises the count by one, and nothing else does.
         ensures count { read_faults self.new ≡ count_after (read_faults self.old) result }
@@ -85,6 +86,7 @@ impl<W: Write> Sink for StdSink<W> {
         ensures bytes { WriteAppends
             (W.contents (writer_of self.old)) (W.contents (writer_of self.new)) result bytes.now }
         ensures cause { HasCause (write_faults self.old) (write_faults self.new) result }
+        ensures quiet { OnOk result (write_faults self.new ≡ write_faults self.old) }
 
         // Each error raises the count by one, and nothing else does.
         ensures count { write_faults self.new ≡ count_after (write_faults self.old) result }

@@ -12,6 +12,7 @@ pub fn write_all<K: Sink>(sink: &mut K, bytes: &[u8]) -> Result<(), u64>
     // All bytes went out, or a call failed and exactly the first n went out.
     ensures whole { OnOk result (Appends (K.written sink.old) (K.written sink.new) bytes.now) }
     ensures fault { OnErr result (Rose (K.faults sink.old) (K.faults sink.new)) }
+    ensures quiet { OnOk result (K.faults sink.new ≡ K.faults sink.old) }
     ensures within { IfErr result (λ n. n < length bytes.now) }
     ensures prefix { IfErr result
         (λ n. Appends (K.written sink.old) (K.written sink.new) (take n bytes.now)) }
