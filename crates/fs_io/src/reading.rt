@@ -19,8 +19,8 @@ pub enum ReadAllError {
     Memory,
 }
 
-/// Reads to the end of input, up to a limit in bytes. Each turn takes at least one byte, so it
-/// returns also where the input never ends. What came before an error is dropped.
+/// Reads to the end of input, up to a limit in bytes. It returns also where the input never ends,
+/// since each read brings it nearer to the limit. What came before an error is dropped.
 pub fn read_all<S: Source>(
     alloc: Global,
     source: &mut S,
