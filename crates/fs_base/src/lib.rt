@@ -10,6 +10,7 @@ mod memory;
 mod name;
 mod path;
 mod reply;
+mod row;
 
 pub use call::{Call, DefaultLayout, Place, Request};
 pub use code::{Code, Limit};
@@ -20,3 +21,4 @@ pub use memory::Memory;
 pub use name::{Name, NameError};
 pub use path::{Path, PathError};
 pub use reply::{Kind, Reply};
+pub use row::Row;
