@@ -1,0 +1,4 @@
+pub mod TreeOf
+pub mod TypedRows
+pub mod Values
+pub mod WellFormed

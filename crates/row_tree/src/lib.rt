@@ -1,0 +1,6 @@
+//! Rows of bytes, and the tree that they are the rows of.
+#![tactic(auto)]
+
+mod tree;
+
+pub use tree::TreeError;
