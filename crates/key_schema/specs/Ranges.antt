@@ -30,6 +30,13 @@ dir_prefix id = codes "DENT" ++ to_le_bytes w64 id
 abbrev pub session_prefix : ℕ → List ℕ
 session_prefix id = codes "SESS" ++ to_le_bytes w64 id
 
+-- how the keys of all sessions begin, and those of all files that are being deleted
+abbrev pub all_sessions : List ℕ
+all_sessions = codes "SESS"
+
+abbrev pub all_doomed : List ℕ
+all_doomed = codes "GCOL"
+
 -- an entry of the directory, a session at the inode
 abbrev pub IsDentOf : ℕ → Key → Type 0
 IsDentOf id key = (name : List ℕ) × (key ≡ keys.Dent id name)

@@ -1,3 +1,5 @@
+pub mod HasTree
+pub mod Spelling
 pub mod TreeOf
 pub mod TypedRows
 pub mod Values

@@ -1,5 +1,5 @@
 -- What may stand at a key: the values of rows, by the form of the key.
-use Rattle.std.specs.Prelude.{ℕ, Option, Some, None}
+use Rattle.std.specs.Prelude.{ℕ, List, [], Option, Some, None}
 use Rattle.inode_record.specs.declared.inode.InodeRow.{InodeRow}
 use Rattle.row_records.specs.declared.rows.DentRow.{DentRow}
 use Rattle.row_records.specs.declared.rows.GcRow.{GcRow}
@@ -38,3 +38,10 @@ as_gc _ = None
 abbrev pub as_alloc : Value → Option ℕ
 as_alloc (AllocValue next) = Some next
 as_alloc _ = None
+
+-- placeholder
+unfoldable pub spelled_value : Value → List ℕ
+spelled_value v = []
+
+unfoldable pub IsValue : Value → Type 0
+IsValue v = Unit {0}
