@@ -1,7 +1,9 @@
+pub mod Ascends
 pub mod Decoded
 pub mod DirRanges
 pub mod OneTree
 pub mod OtherRanges
 pub mod PageLaws
 pub mod Prefixes
+pub mod Refusals
 pub mod SpellingLaws

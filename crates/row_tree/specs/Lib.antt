@@ -1,3 +1,4 @@
+pub mod Ascending
 pub mod HasTree
 pub mod Spelling
 pub mod TreeOf
