@@ -1,3 +1,4 @@
+pub mod Steps
 pub mod TreeOf
 pub mod TypedRows
 pub mod Values
