@@ -1,3 +1,4 @@
 pub mod Adding
+pub mod Changing
 pub mod Ranges
 pub mod Telling
