@@ -1,3 +1,4 @@
+pub mod Opening
 pub mod Steps
 pub mod TreeOf
 pub mod TypedRows
