@@ -1,9 +1,14 @@
+pub mod Adding
 pub mod Ascends
+pub mod Changing
 pub mod Decoded
 pub mod DirRanges
 pub mod OneTree
+pub mod Opening
 pub mod OtherRanges
 pub mod PageLaws
 pub mod Prefixes
+pub mod Ranges
 pub mod Refusals
 pub mod SpellingLaws
+pub mod Telling

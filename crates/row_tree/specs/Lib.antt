@@ -1,6 +1,8 @@
 pub mod Ascending
 pub mod HasTree
+pub mod Opening
 pub mod Spelling
+pub mod Steps
 pub mod TreeOf
 pub mod TypedRows
 pub mod Values

@@ -11,7 +11,7 @@ use Rattle.std.specs.Map.{lookup, keys_of}
 use Rattle.std.specs.List.{AllByRecursion, list_all}
 use Rattle.std.specs.List.Sorted.{IsStrictlySortedBy}
 use Rattle.std.specs.BTreeMap.{is_at}
-use Rattle.std.specs.FinMap.{FinMap, get, insert, remove, find, put, from_entries, from_sorted, entries, entries_sorted, len, len-entries, is_sorted, IsAntisymmetric, nat_cmp-IsAntisymmetric, get-insert, get-remove, get-from_entries, get-from_sorted, get-entries, entries-from_sorted, entries-insert, same_map}
+use Rattle.std.specs.FinMap.{FinMap, empty, get, insert, remove, find, put, from_entries, from_sorted, entries, entries_sorted, len, len-entries, is_sorted, IsAntisymmetric, nat_cmp-IsAntisymmetric, get-empty, get-insert, get-remove, get-from_entries, get-from_sorted, get-entries, entries-from_sorted, entries-insert, same_map}
 use Rattle.std.specs.FinMap.Entries.{below_all, where_key, by_order, is_sorted-where_key, find-where_key}
 use Rattle.std.proofs.lemmas.Map.Lookups.{exact_pairs, exact_unsigned, exact_bytes}
 use Rattle.tree_model.specs.Maps.{set, map_values, tally, count_where, all_pass, dent_cmp, session_cmp}
@@ -84,6 +84,9 @@ module _ {K X Y : Type 0} {R : K → K → Ordering} (o : IsKeyOrder R) (f : X �
       pushed : (b : Bool) (v w : Option X) → option_map f (cond b v w) ≡ cond b (option_map f v) (option_map f w)
       pushed true v w = refl
       pushed false v w = refl
+
+  pub map_values-empty : map_values f (empty {X = X} {R = R}) ≡ empty
+  map_values-empty = same_map o.total o.same _ _ (λ q. get-map_values R f (empty {X = X} {R = R}) q ∙ ap (option_map f) (get-empty R q) ∙ sym (get-empty R q))
 
 -- Entries counted
 abbrev pub one_if : {X : Type 0} → (X → Bool) → Option X → ℕ
