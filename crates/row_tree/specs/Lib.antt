@@ -1,3 +1,4 @@
+pub mod Deciding
 pub mod TreeOf
 pub mod TypedRows
 pub mod Values
