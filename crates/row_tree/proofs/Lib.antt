@@ -1,3 +1,4 @@
-pub mod Decides
+pub mod Counts
 pub mod Decided
+pub mod Decides
 pub mod Ways

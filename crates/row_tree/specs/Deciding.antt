@@ -1,6 +1,7 @@
 -- Tests that compute whether typed rows are well formed, a test for each clause.
-use Rattle.std.specs.Prelude.{ℕ, zero, suc, ◌/◌, ◌%◌, ◌==◌, nat_le, nat_lt, ◌&&◌, ◌||◌, Bool, true, false, not, List, Option, Some, None, is_some}
-use Rattle.std.specs.FinMap.{get, len}
+use Rattle.std.specs.Prelude.{◌≡◌, ℕ, zero, suc, ◌/◌, ◌%◌, ◌==◌, nat_le, nat_lt, ◌&&◌, ◌||◌, Bool, true, false, not, List, Option, Some, None, is_some, unwrap_or}
+use Rattle.std.specs.FinMap.{FinMap, get, len}
+use Rattle.std.specs.Ordering.{nat_cmp}
 use Rattle.fs_base.specs.Config.{Settings, admits}
 use Rattle.fs_base.specs.declared.kind.Kind.{Kind}
 use Rattle.fs_base.specs.declared.kind.Kind.TheVariants as kinds
@@ -56,6 +57,10 @@ abbrev pub counts_fit : TypedRows → ℕ → Kind → ℕ → Bool
 counts_fit S id kinds.Dir links = links == 1
 counts_fit S id kinds.Link links = nat_le 1 links
 counts_fit S id kinds.File links = not (links == 0) || some_passes is_waiting (get S.doomed id)
+
+-- a map of counts has the number of entries to each id, 0 where it has none
+abbrev pub AreCounts : TypedRows → FinMap nat_cmp ℕ → Type 0
+AreCounts S counts = (id : ℕ) → unwrap_or (get counts id) 0 ≡ entries_to S id
 
 abbrev pub is_linked : TypedRows → ℕ → InodeRow → Bool
 is_linked S id row = is_given S id && ((row.links == entries_to S id) && counts_fit S id (kind_of row.part) row.links)

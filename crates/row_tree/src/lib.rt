@@ -1,6 +1,11 @@
 //! Rows of bytes, and the tree that they are the rows of.
 #![tactic(auto)]
 
+mod clauses;
+mod counting;
+mod deciding;
 mod tree;
+mod typed;
 
 pub use tree::TreeError;
+pub use typed::TypedRows;
