@@ -1,6 +1,9 @@
 pub mod Adding
 pub mod Ascends
 pub mod Changing
+pub mod Counts
+pub mod Decided
+pub mod Decides
 pub mod Decoded
 pub mod DirRanges
 pub mod OneTree
@@ -12,3 +15,4 @@ pub mod Ranges
 pub mod Refusals
 pub mod SpellingLaws
 pub mod Telling
+pub mod Ways

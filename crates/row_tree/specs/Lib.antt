@@ -1,4 +1,5 @@
 pub mod Ascending
+pub mod Deciding
 pub mod HasTree
 pub mod Opening
 pub mod Spelling

@@ -2,6 +2,11 @@
 #![tactic(auto)]
 
 mod ascending;
+mod clauses;
+mod counting;
+mod deciding;
 mod tree;
+mod typed;
 
 pub use tree::TreeError;
+pub use typed::TypedRows;

@@ -1,4 +1,4 @@
-ghost use Rattle.std.specs.Prelude.{◌≡◌, None, IsSome, IfOk, OnOk, OnErr};
+ghost use Rattle.std.specs.Prelude.{◌≡◌, ◌<◌, ◌^◌, length, None, IsSome, IfOk, OnOk, OnErr};
 ghost use Rattle.std.specs.Option.{option_copied};
 ghost use Rattle.std.specs.FinMap as map;
 ghost use Rattle.tree_model.specs.Maps.{set};
@@ -6,6 +6,7 @@ ghost use Rattle.tree_model.specs.Maps.{set};
 use fs_base::{Memory, Name};
 use std::alloc::Global;
 use std::collections::BTreeMap;
+use std::collections::btree_map::{IntoIter, Iter};
 use std::marker::Model;
 
 /// A map from numbers: ids of inodes, or servers.
@@ -41,6 +42,21 @@ impl<V> ByNumber<V> {
         ensures { option_copied result ≡ map.get self.now key }
     {
         self.pairs.get(&key)
+    }
+
+    /// The keys with their values, in the order of the keys.
+    pub fn iter(&self) -> Iter<'_, u64, V>
+        ensures entries { result ≡ map.entries self.now }
+        ensures fits { length result < 2 ^ 63 }
+    {
+        self.pairs.iter()
+    }
+
+    /// How many keys there are.
+    pub fn len(&self) -> usize
+        ensures { result ≡ map.len self.now }
+    {
+        self.pairs.len()
     }
 }
 
@@ -79,6 +95,13 @@ impl<V: Drop> ByNumber<V> {
             }
         }
     }
+
+    /// The keys with their values, in the order of the keys, taken out of the map.
+    pub fn into_entries(self) -> IntoIter<u64, V>
+        ensures { result ≡ map.entries self }
+    {
+        self.pairs.into_iter()
+    }
 }
 
 /// A map from entries: the number of a directory, and a name in it.
@@ -116,6 +139,14 @@ impl<V> ByName<V> {
     {
         self.pairs.get(key)
     }
+
+    /// The keys with their values, in the order of the keys.
+    pub fn iter(&self) -> Iter<'_, (u64, Name), V>
+        ensures entries { result ≡ map.entries self.now }
+        ensures fits { length result < 2 ^ 63 }
+    {
+        self.pairs.iter()
+    }
 }
 
 impl<V: Drop> ByName<V> {
@@ -135,6 +166,13 @@ impl<V: Drop> ByName<V> {
         ensures removed { self.new ≡ map.remove self.old key.now }
     {
         self.pairs.remove(key)
+    }
+
+    /// The keys with their values, in the order of the keys, taken out of the map.
+    pub fn into_entries(self) -> IntoIter<(u64, Name), V>
+        ensures { result ≡ map.entries self }
+    {
+        self.pairs.into_iter()
     }
 }
 
@@ -173,6 +211,14 @@ impl<V> BySession<V> {
     {
         self.pairs.get(&key)
     }
+
+    /// The keys with their values, in the order of the keys.
+    pub fn iter(&self) -> Iter<'_, (u64, (u128, u64)), V>
+        ensures entries { result ≡ map.entries self.now }
+        ensures fits { length result < 2 ^ 63 }
+    {
+        self.pairs.iter()
+    }
 }
 
 impl<V: Drop> BySession<V> {
@@ -192,6 +238,13 @@ impl<V: Drop> BySession<V> {
         ensures removed { self.new ≡ map.remove self.old key }
     {
         self.pairs.remove(&key)
+    }
+
+    /// The keys with their values, in the order of the keys, taken out of the map.
+    pub fn into_entries(self) -> IntoIter<(u64, (u128, u64)), V>
+        ensures { result ≡ map.entries self }
+    {
+        self.pairs.into_iter()
     }
 }
 
@@ -229,6 +282,14 @@ impl<V> ByClient<V> {
     {
         self.pairs.get(&key)
     }
+
+    /// The keys with their values, in the order of the keys.
+    pub fn iter(&self) -> Iter<'_, u128, V>
+        ensures entries { result ≡ map.entries self.now }
+        ensures fits { length result < 2 ^ 63 }
+    {
+        self.pairs.iter()
+    }
 }
 
 impl<V: Drop> ByClient<V> {
@@ -248,5 +309,12 @@ impl<V: Drop> ByClient<V> {
         ensures removed { self.new ≡ map.remove self.old key }
     {
         self.pairs.remove(&key)
+    }
+
+    /// The keys with their values, in the order of the keys, taken out of the map.
+    pub fn into_entries(self) -> IntoIter<u128, V>
+        ensures { result ≡ map.entries self }
+    {
+        self.pairs.into_iter()
     }
 }

@@ -1,0 +1,7 @@
+use Rattle.std.proofs.Common.{ap, sym, ◌∙◌}
+use Rattle.std.specs.FinMap as map
+use Rattle.tree_model.proofs.MapLaws.{ids, entries_are}
+use Rattle.tree_model.proofs.maps.ByClient.iter.Goals as goal
+
+pub returns-clause-entries : goal.returns-clause-entries
+returns-clause-entries g c = c.iter.ensures.rest ∙ sym (entries_are ids c.self.inside.pairs.entries c.iter.ensures.ordered) ∙ ap map.entries c.self.view_is
