@@ -61,10 +61,10 @@ pub versioned_is : {X : Type 0} (form : Form X) → IsForm form → IsForm (vers
 versioned_is form is = record {
   back = λ x rest h. rw (append_assoc, version_is.back tt (form.spelled x ++ rest) version_fits) (is.back x rest h);
   exact = λ bytes rest x h.
-    let w = went (version.reads bytes) _ _ h in
-    let ev = version_is.exact bytes w.a.1 w.a.0 w.first in
-    let ef = is.exact w.a.1 rest x w.then in
-    (ef.0, ev.1 ∙ (ap (λ r. version.spelled tt ++ r) ef.1 ∙ sym (append_assoc (version.spelled tt) (form.spelled x) rest)));
+      let w = went (version.reads bytes) _ _ h in
+      let ev = version_is.exact bytes w.a.1 w.a.0 w.first in
+      let ef = is.exact w.a.1 rest x w.then in
+      (ef.0, ev.1 ∙ (ap (λ r. version.spelled tt ++ r) ef.1 ∙ sym (append_assoc (version.spelled tt) (form.spelled x) rest)));
 }
 
 option_back : {X : Type 0} (form : Form X) → IsForm form → (o : Option X) (left : ℕ) (rest : List ℕ) → (written_option form o).fits ≡ true → reads_arm (option_arms form) (written_option form o).tag left ((written_option form o).spelled ++ rest) ≡ Ok (o, rest)

@@ -1,16 +1,16 @@
 -- Loops over the items of a list, read and written.
-use Rattle.std.proofs.Common.{◌≡◌, ℕ, zero, suc, ◌+◌, ◌-◌, ◌<◌, ◌≤◌, Bool, true, false, List, [], ◌∷◌, ◌++◌, length, get_or, take, drop, Option, Some, None, Result, Ok, Err, refl, sym, ap, subst, ◌∙◌, append_assoc, arith, add-one}
+use Rattle.std.proofs.Common.{◌≡◌, ℕ, zero, suc, ◌+◌, ◌-◌, ◌<◌, ◌≤◌, Bool, true, false, List, [], ◌∷◌, ◌++◌, length, get_or, take, Option, Some, None, Result, Ok, Err, refl, sym, ap, subst, ◌∙◌, append_assoc, arith}
 use Rattle.std.specs.Prelude.{IfSome}
 use Rattle.std.proofs.lemmas.List.{append-nil}
 use Rattle.fs_base.specs.Gives.{◌>>=◌}
-use Rattle.byte_fields.specs.Forms.{Form, passed, reads_items, spelled_items}
+use Rattle.byte_fields.specs.Forms.{Form, reads_items, spelled_items}
 
 abbrev pub last_of : {X : Type 0} → List X → Option X
 last_of [] = None
 last_of (x ∷ []) = Some x
 last_of (x ∷ y ∷ ys) = last_of (y ∷ ys)
 
-last_added : {X : Type 0} (xs : List X) (x : X) → last_of (xs ++ x ∷ []) ≡ Some x
+pub last_added : {X : Type 0} (xs : List X) (x : X) → last_of (xs ++ x ∷ []) ≡ Some x
 last_added [] x = refl
 last_added (y ∷ []) x = refl
 last_added (y ∷ z ∷ zs) x = last_added (z ∷ zs) x
@@ -62,3 +62,16 @@ spelled_more form (x ∷ xs) zero d lt = append-nil (form.spelled x)
 spelled_more {X} form (x ∷ xs) (suc i) d lt =
     let one : suc i + 1 ≡ suc (i + 1) = omega arith in
     ap (λ k. spelled_items form (take k (x ∷ xs))) one ∙ (ap (λ r. form.spelled x ++ r) (spelled_more form xs i d (omega arith)) ∙ sym (append_assoc (form.spelled x) (spelled_items form (take i xs)) (form.spelled (get_or xs i d))))
+
+behind_none : {X : Type 0} (r : Result (List X × List ℕ) ℕ) → behind [] r ≡ r
+behind_none (Ok (xs, rest)) = refl
+behind_none (Err left) = refl
+
+pub items_first : {X : Type 0} (form : Form X) (follows : Option X → X → Bool) (n : ℕ) (bytes : List ℕ) → behind [] (reads_items form follows None (n - 0) bytes) ≡ reads_items form follows None n bytes
+items_first form follows n bytes =
+    let all : n - 0 ≡ n = omega arith in
+    behind_none (reads_items form follows None (n - 0) bytes) ∙ ap (λ k. reads_items form follows None k bytes) all
+
+pub written_more : {X : Type 0} (form : Form X) (xs : List X) (i : ℕ) (x d : X) → i < length xs → x ≡ get_or xs i d → (start before after : List ℕ) → before ≡ start ++ spelled_items form (take i xs) → after ≡ before ++ form.spelled x → after ≡ start ++ spelled_items form (take (i + 1) xs)
+written_more form xs i x d lt e start before after so_far more =
+    more ∙ (ap (λ s. s ++ form.spelled x) so_far ∙ (append_assoc start (spelled_items form (take i xs)) (form.spelled x) ∙ ap (λ s. start ++ s) (ap (λ y. spelled_items form (take i xs) ++ form.spelled y) e ∙ sym (spelled_more form xs i d lt))))

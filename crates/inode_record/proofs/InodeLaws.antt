@@ -1,14 +1,12 @@
 -- An inode's row reads back what it spells, and reads nothing else.
 use Rattle.std.proofs.Common.{◌≡◌, ℕ, true, List, [], ◌∷◌, ◌++◌, Ok, refl}
-use Rattle.fs_base.specs.declared.layout.Layout.{Layout}
 use Rattle.byte_fields.specs.Forms.{reads_arm, paired}
-use Rattle.byte_fields.specs.Fields.{number_1, number_2, number_4, number_8, within, inode_id, time, file_size, path_text}
+use Rattle.byte_fields.specs.Fields.{number_1, number_4, path_text}
 use Rattle.byte_fields.proofs.FormLaws.{IsForm, AreArms, paired_is, shaped_is, arm_is, arm_back, choice_is}
 use Rattle.byte_fields.proofs.FieldLaws.{within_is, inode_id_is, mode_is, time_is, file_size_is, chunk_is, stripe_is, used_layout_is, path_text_is, versioned_is}
 use Rattle.byte_fields.proofs.Numbers.{number_1_is, number_4_is}
 use Rattle.inode_record.specs.Inode.{access, times, head, dir_part, file_part, with_part, written_part, written_inode, dir_arm, file_arm, link_arm, by_kind, inode}
 use Rattle.inode_record.specs.declared.inode.Head.{Head}
-use Rattle.inode_record.specs.declared.inode.InodeRow.{InodeRow}
 use Rattle.inode_record.specs.declared.inode.InodePart.{InodePart}
 use Rattle.inode_record.specs.declared.inode.InodePart.TheVariants as parts
 
@@ -39,10 +37,13 @@ part_back h (parts.Link target) left rest fits = arm_back 3 (paired head path_te
 
 arms_are : AreArms written_inode (dir_arm ∷ file_arm ∷ link_arm ∷ [])
 arms_are = record {
-  each =
-    (arm_is written_inode 1 (paired head dir_part) _ (paired_is head dir_part head_is dir_part_is) (λ x. refl),
-    (arm_is written_inode 2 (paired head file_part) _ (paired_is head file_part head_is file_part_is) (λ x. refl),
-    (arm_is written_inode 3 (paired head path_text) _ (paired_is head path_text head_is path_text_is) (λ x. refl), tt)));
+  each = (
+    arm_is written_inode 1 (paired head dir_part) _ (paired_is head dir_part head_is dir_part_is) (λ x. refl),
+    (
+      arm_is written_inode 2 (paired head file_part) _ (paired_is head file_part head_is file_part_is) (λ x. refl),
+      (arm_is written_inode 3 (paired head path_text) _ (paired_is head path_text head_is path_text_is) (λ x. refl), tt),
+    ),
+  );
   back = λ row left rest fits. part_back _ row.part left rest fits;
 }
 

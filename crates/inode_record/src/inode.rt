@@ -27,7 +27,9 @@ pub enum InodePart {
         hint: u16,
     },
     /// A symbolic link to a path text.
-    Link { target: Text },
+    Link {
+        target: Text,
+    },
 }
 
 /// The row of an inode: what every kind has (POSIX `stat`), and its part.

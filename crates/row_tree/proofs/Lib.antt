@@ -7,6 +7,7 @@ pub mod Decides
 pub mod Decoded
 pub mod DirRanges
 pub mod OneTree
+pub mod OneValue
 pub mod Opening
 pub mod OtherRanges
 pub mod PageLaws

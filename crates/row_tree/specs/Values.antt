@@ -1,9 +1,11 @@
 -- What may stand at a key: the values of rows, by the form of the key.
-use Rattle.std.specs.Prelude.{ℕ, List, [], Option, Some, None}
+use Rattle.std.specs.Prelude.{ℕ, IsTrue, List, Option, Some, None}
+use Rattle.inode_record.specs.Inode.{spelled_inode, is_inode}
 use Rattle.inode_record.specs.declared.inode.InodeRow.{InodeRow}
 use Rattle.row_records.specs.declared.rows.DentRow.{DentRow}
 use Rattle.row_records.specs.declared.rows.GcRow.{GcRow}
 use Rattle.row_records.specs.declared.rows.KeptRow.{KeptRow}
+use Rattle.row_records.specs.Rows.{spelled_dent, is_dent, spelled_session, is_session, spelled_kept, is_kept, spelled_gc, is_gc, spelled_alloc, is_alloc}
 
 pub data Value : Type 0 where
   InodeValue : (row : InodeRow) → Value
@@ -39,9 +41,20 @@ abbrev pub as_alloc : Value → Option ℕ
 as_alloc (AllocValue next) = Some next
 as_alloc _ = None
 
--- placeholder
+-- a value's bytes
 unfoldable pub spelled_value : Value → List ℕ
-spelled_value v = []
+spelled_value (InodeValue row) = spelled_inode row
+spelled_value (DentValue row) = spelled_dent row
+spelled_value (SessionValue stamp) = spelled_session (record { stamp = stamp })
+spelled_value (KeptValue row) = spelled_kept row
+spelled_value (GcValue row) = spelled_gc row
+spelled_value (AllocValue next) = spelled_alloc (record { next = next })
 
-unfoldable pub IsValue : Value → Type 0
-IsValue v = Unit {0}
+-- its numbers are in their ranges
+abbrev pub IsValue : Value → Type 0
+IsValue (InodeValue row) = IsTrue (is_inode row)
+IsValue (DentValue row) = IsTrue (is_dent row)
+IsValue (SessionValue stamp) = IsTrue (is_session (record { stamp = stamp }))
+IsValue (KeptValue row) = IsTrue (is_kept row)
+IsValue (GcValue row) = IsTrue (is_gc row)
+IsValue (AllocValue next) = IsTrue (is_alloc (record { next = next }))
