@@ -4,6 +4,7 @@
 mod clauses;
 mod counting;
 mod deciding;
+mod into_tree;
 mod tree;
 mod typed;
 
