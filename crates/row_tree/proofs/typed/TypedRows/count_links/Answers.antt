@@ -1,5 +1,5 @@
-use Rattle.std.proofs.Common.{◌≡◌, List, ℕ, length, arith, ap, sym, subst, ◌∙◌, ◌<◌, ◌≤◌, ◌+◌, ◌^◌, unwrap_or}
-use Rattle.std.specs.FinMap.{entries, get}
+use Rattle.std.proofs.Common.{◌≡◌, List, ℕ, length, arith, ap, subst, ◌∙◌, ◌<◌, ◌^◌}
+use Rattle.std.specs.FinMap.{entries}
 use Rattle.tree_model.specs.Maps.{tally}
 use Rattle.row_records.specs.declared.rows.DentRow.{DentRow}
 use Rattle.row_tree.specs.TypedRows.{TypedRows, is_to}
