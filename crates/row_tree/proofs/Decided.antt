@@ -1,8 +1,8 @@
 -- The tests decide whether typed rows are well formed.
-use Rattle.std.proofs.Common.{◌≡◌, ◌≢◌, ℕ, zero, suc, ◌<◌, ◌≤◌, ◌/◌, ◌%◌, ◌^◌, ◌==◌, nat_le, nat_lt, Bool, true, false, not, ◌&&◌, ◌||◌, List, [], ◌∷◌, length, refl, sym, ap, subst, ◌∙◌, inl, inr, arith, eqb-true, eq-eqb, is_some}
+use Rattle.std.proofs.Common.{◌≡◌, ◌≢◌, ℕ, zero, suc, ◌<◌, ◌≤◌, ◌/◌, ◌%◌, ◌^◌, ◌==◌, Bool, true, false, not, ◌&&◌, ◌||◌, List, [], ◌∷◌, length, refl, ap, ◌∙◌, inl, inr, arith, eqb-true, eq-eqb, is_some}
 use Rattle.std.specs.Prelude.{Option, Some, None}
 use Rattle.std.specs.FinMap.{get, len}
-use Rattle.fs_base.specs.Config.{Settings, admits, layout_at}
+use Rattle.fs_base.specs.Config.{Settings, admits}
 use Rattle.fs_base.specs.declared.kind.Kind.{Kind}
 use Rattle.fs_base.specs.declared.kind.Kind.TheVariants as kinds
 use Rattle.fs_base.specs.declared.layout.DefaultLayout.{DefaultLayout}
@@ -14,10 +14,10 @@ use Rattle.row_records.specs.declared.rows.DentRow.{DentRow}
 use Rattle.row_records.specs.declared.rows.GcRow.{GcRow}
 use Rattle.row_records.specs.declared.rows.GcRow.TheVariants.{Waiting, Purged}
 use Rattle.tree_model.specs.Tree.{next_at}
-use Rattle.tree_model.proofs.MapLaws.{ids, names, holders, some_injective}
+use Rattle.tree_model.proofs.MapLaws.{ids, names, holders}
 use Rattle.row_tree.specs.TypedRows.{TypedRows, kind_of, parent_at, entries_to}
 use Rattle.row_tree.specs.WellFormed.{HasKind, IsGiven, IsPath, IsEntry, IsLinked, IsRootRow, IsLayout, FitsConfig, IsDoomed, IsWellFormed}
-use Rattle.row_tree.specs.Deciding.{some_passes, is_kind, has_kind, is_given, names_root, is_root_row, root_test, is_waiting, counts_fit, is_linked, linked_test, is_layout, is_used, fits_config, fits_test, goes_up, climbs, leads_test, is_inside, is_entry, entry_test, is_unlinked_file, is_doomed, doomed_test, session_test, number_test, numbers_test, rows_test}
+use Rattle.row_tree.specs.Deciding.{some_passes, is_kind, has_kind, is_given, names_root, is_root_row, root_test, is_waiting, counts_fit, is_linked, linked_test, is_layout, is_used, fits_config, fits_test, goes_up, climbs, leads_test, is_entry, entry_test, is_unlinked_file, is_doomed, doomed_test, session_test, number_test, numbers_test, rows_test}
 use Rattle.row_tree.proofs.Decides.{IsTest, decides_eq, decides_le, decides_lt, decides_true, decides_and, decides_not, decides_then, decides_unless, decides_as, decides_some, decides_each}
 use Rattle.row_tree.proofs.Ways.{IsWay, or_true, way_of_path, way_short}
 

@@ -1,12 +1,11 @@
 -- When a test decides a fact, and how tests that do are put together.
-use Rattle.std.proofs.Common.{◌≡◌, ◌≢◌, ℕ, ◌<◌, ◌≤◌, Bool, true, false, not, ◌&&◌, ◌||◌, ◌==◌, nat_le, nat_lt, refl, sym, ap, subst, ◌∙◌, inl, inr, eqb-true, eq-eqb, leb-true, le-leb, ltb-true, lt-ltb}
+use Rattle.std.proofs.Common.{◌≡◌, ℕ, ◌<◌, ◌≤◌, Bool, true, false, not, ◌&&◌, ◌||◌, ◌==◌, nat_le, nat_lt, refl, sym, subst, eqb-true, eq-eqb, leb-true, le-leb, ltb-true, lt-ltb}
 use Rattle.std.specs.Prelude.{Option, Some, None}
 use Rattle.std.specs.declared.cmp.Ordering.{Ordering}
 use Rattle.std.specs.FinMap.{FinMap, get}
 use Rattle.tree_model.specs.Maps.{all_pass}
 use Rattle.tree_model.proofs.MapLaws.{IsKeyOrder, found_passes, passes_each, and_true, and_both, some_injective}
 use Rattle.row_tree.specs.Deciding.{some_passes}
-use Rattle.row_tree.proofs.Ways.{or_true}
 
 -- the test is true exactly where the fact holds
 pub record IsTest (b : Bool) (P : Type 0) : Type 0 where

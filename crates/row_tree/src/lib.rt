@@ -5,6 +5,7 @@ mod ascending;
 mod clauses;
 mod counting;
 mod deciding;
+mod into_tree;
 mod tree;
 mod typed;
 

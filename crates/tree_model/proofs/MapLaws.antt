@@ -381,3 +381,38 @@ module _ {K X : Type 0} {R : K → K → Ordering} (o : IsKeyOrder R) where
 
   pub there_after : (m : FinMap R X) (k : K) (v : X) → IsSome (get (insert m k v) k)
   there_after m k v = rw (get-set_same o m k (Some v)) refl
+
+-- a value changed and put in for each entry
+abbrev pub insert_each : {K X Y : Type 0} {R : K → K → Ordering} → (X → Y) → List (K × X) → FinMap R Y → FinMap R Y
+insert_each f [] m = m
+insert_each f (e ∷ es) m = insert_each f es (insert m e.0 (f e.1))
+
+module _ {K X Y : Type 0} {R : K → K → Ordering} (o : IsKeyOrder R) (f : X → Y) where
+  abbrev over_it : Option X → Option Y → Option Y
+  over_it None below = below
+  over_it (Some v) below = Some (f v)
+
+  over_head : (b : Bool) (v : X) (found : Option X) (below : Option Y) → (b ≡ true → found ≡ None) → over_it found (cond b (Some (f v)) below) ≡ over_it (cond b (Some v) found) below
+  over_head true v found below none = ap (λ x. over_it x (Some (f v))) (none refl)
+  over_head false v found below none = refl
+
+  get-insert_each : (es : List (K × X)) → T (is_sorted R es) → (m : FinMap R Y) (q : K) → get (insert_each f es m) q ≡ over_it (find R q es) (get m q)
+  get-insert_each [] h m q = refl
+  get-insert_each (e ∷ es) h m q =
+      get-insert_each es (both_second _ _ h) (insert m e.0 (f e.1)) q ∙ ap (over_it (find R q es)) (get-insert o.total m e.0 (f e.1) q)
+      ∙ over_head (eq_by_cmp R q e.0) e.1 (find R q es) (get m q) (λ ties. elim (decide o q e.0) [
+        | inl p ↦ ap (λ x. find R x es) p.0 ∙ find_below o e.0 es (both_first _ _ h)
+        | inr p ↦ let wrong : true ≡ false = sym ties ∙ p.1 in cc
+      ])
+
+  -- put into a map without keys, each entry of a map makes the map of the changed values
+  pub inserted_each : (es : List (K × X)) (made : FinMap R Y) (m : FinMap R X) → es ≡ entries m → made ≡ empty → insert_each f es made ≡ map_values f m
+  inserted_each es made m all none =
+      (λ i. insert_each f (all i) (none i))
+      ∙ same_map o.total o.same _ _ (λ q.
+        get-insert_each (entries m) (entries_sorted m) empty q ∙ ap (over_it (find R q (entries m))) (get-empty R q)
+        ∙ alone (find R q (entries m)) ∙ ap (option_map f) (sym (get-entries m q)) ∙ sym (get-map_values R f m q))
+    where
+      alone : (x : Option X) → over_it x None ≡ option_map f x
+      alone None = refl
+      alone (Some v) = refl

@@ -1,5 +1,5 @@
-use Rattle.std.proofs.Common.{◌≡◌, List, ℕ, length, arith, ap, sym, subst, ◌∙◌, ◌<◌, ◌≤◌, ◌+◌, ◌^◌, unwrap_or}
-use Rattle.std.specs.FinMap.{entries, get}
+use Rattle.std.proofs.Common.{◌≡◌, List, ℕ, length, arith, ap, subst, ◌∙◌, ◌<◌, ◌^◌}
+use Rattle.std.specs.FinMap.{entries}
 use Rattle.tree_model.specs.Maps.{tally}
 use Rattle.row_records.specs.declared.rows.DentRow.{DentRow}
 use Rattle.row_tree.specs.TypedRows.{TypedRows, is_to}
@@ -26,6 +26,6 @@ pub loop-key-preserved : goal.loop-key-preserved
 loop-key-preserved c =
     record {
       counted = counted_on _ _ _ _ _ _ _ _ (λ id. tally (is_to id) (entries c.args.self.now.dents))
-        c.get-id.ensures.value c.count_at-count.ensures c.in_ok-insert.ensures.ok c.in-Some.ensures.steps c.loop-key.invariant.counted;
+          c.get-id.ensures.value c.count_at-count.ensures c.in_ok-insert.ensures.ok c.in-Some.ensures.steps c.loop-key.invariant.counted;
       fits = c.loop-key.invariant.fits;
     }
