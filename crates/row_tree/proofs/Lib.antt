@@ -12,8 +12,11 @@ pub mod Opening
 pub mod OtherRanges
 pub mod PageLaws
 pub mod Prefixes
+pub mod Putting
 pub mod Ranges
 pub mod Refusals
+pub mod RowByRow
 pub mod SpellingLaws
 pub mod Telling
+pub mod TreeRead
 pub mod Ways

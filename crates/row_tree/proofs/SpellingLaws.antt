@@ -3,7 +3,7 @@ use Rattle.std.proofs.Common.{◌≡◌, ◌≢◌, ◌⊎◌, ℕ, List, [], �
 use Rattle.std.specs.Prelude.{Option, Some, None, false, ◌==◌, cond}
 use Rattle.std.specs.Option.{option_map, option_and_then}
 use Rattle.std.specs.Ordering.{nat_cmp, is_eq}
-use Rattle.std.specs.FinMap.{get, empty, get-empty, same_map}
+use Rattle.std.specs.FinMap.{get, get-empty, same_map}
 use Rattle.conflict_sets.specs.Keys.{key_cmp}
 use Rattle.conflict_sets.specs.Rows.{IsAscending, value_at_key, with_write}
 use Rattle.fs_base.specs.declared.row.Row.{Row}
@@ -16,7 +16,7 @@ use Rattle.row_records.specs.declared.rows.KeptRow.{KeptRow}
 use Rattle.key_schema.specs.declared.key.Key.{Key}
 use Rattle.key_schema.specs.declared.key.Key.TheVariants as keys
 use Rattle.row_tree.specs.Values.{Value, AllocValue, DentValue, GcValue, KeptValue, InodeValue, SessionValue, spelled_value, IsValue, as_inode, as_dent, as_session, as_kept, as_gc, as_alloc}
-use Rattle.row_tree.specs.TypedRows.{TypedRows, lookup, write, of_form}
+use Rattle.row_tree.specs.TypedRows.{TypedRows, no_rows, lookup, write, of_form}
 use Rattle.tree_model.specs.Maps.{dent_cmp, session_cmp}
 use Rattle.tree_model.proofs.MapLaws.{IsKeyOrder, decide, some_or_none, same_some, ids, names, holders}
 use Rattle.row_tree.proofs.Decoded.{lookup-write_same, lookup-write_other}
@@ -193,11 +193,7 @@ same_typed_rows law R S U a b =
     λ i. record { inodes = inodes i; dents = dents i; sessions = sessions i; kept = kept i; doomed = doomed i; next = next i }
 
 -- ---- no rows spell no rows
-pub nothing : TypedRows
-nothing = record { inodes = empty; dents = empty; sessions = empty; kept = empty; doomed = empty; next = empty }
-
-absent : (k : Key) → lookup nothing k ≡ None
-unfolding nothing
+absent : (k : Key) → lookup no_rows k ≡ None
 absent (keys.Alloc i) = ap (option_map AllocValue) (get-empty nat_cmp i)
 absent (keys.Dent d n) = ap (option_map DentValue) (get-empty dent_cmp (d, n))
 absent (keys.Gc i) = ap (option_map GcValue) (get-empty nat_cmp i)
@@ -211,7 +207,7 @@ none_some v e = absurd (cc)
 none_bytes : {P : Type 0} (v : List ℕ) → None ≡ Some v → P
 none_bytes v e = absurd (cc)
 
-pub spells_nothing : Spells [] nothing
+pub spells_nothing : Spells [] no_rows
 spells_nothing =
     record {
       at = λ k ok. sym (ap (option_map spelled_value) (absent k));

@@ -2,6 +2,7 @@ pub mod Ascending
 pub mod Deciding
 pub mod HasTree
 pub mod Opening
+pub mod Reading
 pub mod Spelling
 pub mod Steps
 pub mod TreeOf

@@ -3,7 +3,7 @@ use Rattle.std.specs.Prelude.{ℕ, ◌==◌, Bool, cond, List, Option, Some, Non
 use Rattle.std.specs.Option.{option_map, option_and_then}
 use Rattle.std.specs.Ordering.{nat_cmp}
 use Rattle.std.specs.List.{filter_map}
-use Rattle.std.specs.FinMap.{FinMap, get, entries}
+use Rattle.std.specs.FinMap.{FinMap, empty, get, entries}
 use Rattle.fs_base.specs.declared.kind.Kind.{Kind}
 use Rattle.fs_base.specs.declared.kind.Kind.TheVariants as kinds
 use Rattle.inode_record.specs.declared.inode.InodePart.{InodePart}
@@ -30,6 +30,9 @@ pub record TypedRows : Type 0 where
   pub doomed : FinMap nat_cmp GcRow
   -- by server, its next number
   pub next : FinMap nat_cmp ℕ
+
+abbrev pub no_rows : TypedRows
+no_rows = record { inodes = empty; dents = empty; sessions = empty; kept = empty; doomed = empty; next = empty }
 
 -- what stands at a key
 abbrev pub lookup : TypedRows → Key → Option Value

@@ -6,8 +6,9 @@ mod clauses;
 mod counting;
 mod deciding;
 mod into_tree;
+mod reading;
 mod tree;
 mod typed;
 
-pub use tree::TreeError;
+pub use tree::{TreeError, read_tree};
 pub use typed::TypedRows;
