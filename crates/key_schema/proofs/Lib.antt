@@ -1,1 +1,5 @@
+pub mod ClientBytes
+pub mod Forms
 pub mod KeyLaws
+pub mod Orders
+pub mod Prefixes
