@@ -1,6 +1,7 @@
 -- A configuration, as contracts see it, and its limits.
-use Rattle.std.specs.Prelude.{ℕ, ◌≤◌, nat_le, ◌&&◌, Bool}
-use Rattle.fs_base.specs.declared.call.DefaultLayout.{DefaultLayout}
+use Rattle.std.specs.Prelude.{ℕ, ◌≤◌, ◌%◌, nat_le, ◌&&◌, Bool, if◌then◌else◌, Option, Some, None}
+use Rattle.fs_base.specs.declared.layout.DefaultLayout.{DefaultLayout}
+use Rattle.fs_base.specs.declared.layout.Layout.{Layout}
 
 pub record Settings : Type 0 where
   pub servers : ℕ
@@ -28,3 +29,11 @@ default_settings = record { servers = 1; nodes = 1; chains = 1; chunk = 1048576;
 -- a directory's default: a chunk of 1 to 4,194,304 bytes over 1 to all chains
 abbrev pub admits : Settings → DefaultLayout → Bool
 admits settings layout = (nat_le 1 layout.chunk && nat_le layout.chunk 4194304) && (nat_le 1 layout.stripe && nat_le layout.stripe settings.chains)
+
+-- the layout of an inode: it starts at the chain of its number, and is shuffled by it
+abbrev pub layout_at : Settings → ℕ → DefaultLayout → Layout
+layout_at settings id given = record { chunk = given.chunk; stripe = given.stripe; start = id % settings.chains; mix = id }
+
+-- for a chunk and stripe that the configuration admits
+abbrev pub layout_given : Settings → ℕ → DefaultLayout → Option Layout
+layout_given settings id given = if admits settings given then Some (layout_at settings id given) else None

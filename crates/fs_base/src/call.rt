@@ -3,7 +3,8 @@ ghost use Rattle.fs_base.specs.Paths.{path_of};
 
 use crate::code::Code;
 use crate::ids::{ClientId, InodeId};
-use crate::items::Text;
+use crate::items::{Items, Text};
+use crate::layout::DefaultLayout;
 use crate::memory::Memory;
 use crate::path::{Path, PathError};
 use std::alloc::Global;
@@ -39,26 +40,125 @@ impl Place {
     }
 }
 
-/// A directory's default for the files made in it: chunk size in bytes, and number of chains to stripe over.
+/// A write session: a file that is open for writing, and the number of the request that opened it.
 ///
-/// A call may name any numbers; `BadLayout` is the answer where they are out of range.
+/// It is the caller's own session. Number 0 stands for none.
 #[derive(Clone, Copy, Debug, PartialEq, Eq)]
-pub struct DefaultLayout {
-    pub chunk: u32,
-    pub stripe: u16,
+pub struct Session {
+    pub inode: InodeId,
+    pub number: u64,
 }
 
-/// What a client asks of a server.
+/// What `setattr` sets. What isn't given stays, but for the change time, which is the stamp.
+#[derive(Clone, Copy, Debug, PartialEq, Eq)]
+pub struct Changes {
+    /// The twelve permission bits, below 4,096.
+    pub mode: Option<u16>,
+    pub owner: Option<u32>,
+    pub group: Option<u32>,
+    /// Access and modification time, below 2^53.
+    pub atime: Option<u64>,
+    pub mtime: Option<u64>,
+}
+
+/// What a client asks of a server. The last three are a client's own and are sent to none.
+///
+/// A mode is the twelve permission bits of POSIX, below 4,096.
 #[derive(Debug, Drop)]
 pub enum Call {
-    /// What stands at a place. It changes nothing.
+    /// What stands at a place; a link as the last name isn't followed.
     Lookup(Place),
-    /// Makes a directory. A mode is the twelve permission bits of POSIX, below 4,096.
+    /// The attributes of what stands at a place (POSIX `stat`).
+    Stat(Place),
+    /// A directory's entries.
+    List(Place),
+    /// A link's target (POSIX `readlink`).
+    Readlink(Place),
+    /// Opens a file for reading: no session is made.
+    Openr(Place),
+    /// What a session's file is like by now.
+    Fstat(Session),
+    /// The files that are being deleted.
+    Doomed,
+    /// Makes a directory, with a default layout or its parent's.
     Mkdir {
         place: Place,
         mode: u16,
         layout: Option<DefaultLayout>,
     },
+    /// Makes an empty file, with a chunk and stripe or its directory's default.
+    Create {
+        place: Place,
+        mode: u16,
+        layout: Option<DefaultLayout>,
+    },
+    /// Makes a symbolic link to a path (POSIX `symlink`).
+    Symlink {
+        place: Place,
+        target: Text,
+    },
+    /// Sets attributes (POSIX `chmod`, `chown`, `utimensat`).
+    Setattr {
+        place: Place,
+        changes: Changes,
+    },
+    /// A further entry for a file or link (POSIX `link`).
+    Link {
+        from: Place,
+        to: Place,
+    },
+    /// Takes away a file's or link's entry (POSIX `unlink`).
+    Unlink(Place),
+    /// Removes an empty directory (POSIX `rmdir`).
+    Rmdir(Place),
+    /// Moves an entry (POSIX `rename`).
+    Rename {
+        from: Place,
+        to: Place,
+    },
+    /// Opens a file for writing.
+    Open(Place),
+    /// Makes a place of the layout usable.
+    Extend {
+        session: Session,
+        place: u16,
+    },
+    /// Tells how far the client has written, and at which count of truncations.
+    Report {
+        session: Session,
+        end: u64,
+        truncs: u32,
+    },
+    /// Takes the length from the storage nodes.
+    Fsync(Session),
+    /// As fsync, and ends the session.
+    Close(Session),
+    /// Sets the length (POSIX `ftruncate`).
+    Truncate {
+        session: Session,
+        length: u64,
+    },
+    /// Takes away the node of a file without entries.
+    Purge(InodeId),
+    /// Forgets a purged file whose chunks are gone.
+    Reap(InodeId),
+    /// Ends the sessions of all clients but these, ascending.
+    Prune(Items<ClientId>),
+    /// Writes one byte value over a range; offset and length in bytes.
+    Write {
+        session: Session,
+        offset: u64,
+        len: u64,
+        fill: u8,
+    },
+    /// Reads a range; offset and length in bytes.
+    Read {
+        inode: InodeId,
+        offset: u64,
+        len: u64,
+    },
+    /// Deletes what can be deleted.
+    Sweep,
 }
 
 /// A call as it comes to a server: who asks, by which of its own numbers (from 1), and at which time.

@@ -1,7 +1,7 @@
 ghost use Rattle.std.specs.Prelude.{◌≡◌, ◌≤◌, ◌↔◌, IsSome, IfSome};
 ghost use Rattle.fs_base.specs.Config.{IsConfig, default_settings, admits};
 
-use crate::call::DefaultLayout;
+use crate::layout::DefaultLayout;
 use std::marker::Model;
 
 /// The numbers of servers, storage nodes and replica chains, and the root's default layout.

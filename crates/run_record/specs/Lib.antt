@@ -1,2 +1,4 @@
+pub mod Hex
 pub mod Replies
+pub mod ReplyText
 pub mod Words

@@ -4,18 +4,11 @@ use Rattle.std.specs.List.{flat_map}
 use Rattle.fs_base.specs.Config.{Settings}
 use Rattle.fs_base.specs.declared.call.Call.{Call}
 use Rattle.fs_base.specs.declared.call.Call.TheVariants as calls
-use Rattle.fs_base.specs.declared.code.Code.{Code}
-use Rattle.fs_base.specs.declared.code.Code.TheVariants as refusals
-use Rattle.fs_base.specs.declared.code.Limit.{Limit}
-use Rattle.fs_base.specs.declared.code.Limit.TheVariants as limits
-use Rattle.fs_base.specs.declared.reply.Kind.{Kind}
-use Rattle.fs_base.specs.declared.reply.Kind.TheVariants as kinds
-use Rattle.fs_base.specs.declared.reply.Reply.{Reply}
-use Rattle.fs_base.specs.declared.reply.Reply.TheVariants as replies
 use Rattle.run_record.specs.declared.run.Listed.{Listed}
 use Rattle.run_record.specs.declared.run.Receipt.{Receipt}
 use Rattle.run_record.specs.declared.run.Record.{Record}
 use Rattle.run_record.specs.declared.run.Summary.{Summary}
+use Rattle.run_record.specs.ReplyText.{reply_words}
 use Rattle.run_record.specs.Words.{spaced, line, number_word, setting}
 
 -- the format and its version, and the configuration
@@ -30,28 +23,32 @@ mark_word false = codes "seen"
 
 abbrev pub call_word : Call → List ℕ
 call_word (calls.Lookup place) = codes "lookup"
+call_word (calls.Stat place) = codes "stat"
+call_word (calls.List place) = codes "list"
+call_word (calls.Readlink place) = codes "readlink"
+call_word (calls.Openr place) = codes "openr"
+call_word (calls.Fstat session) = codes "fstat"
+call_word calls.Doomed = codes "doomed"
 call_word (calls.Mkdir place mode layout) = codes "mkdir"
-
-abbrev pub kind_word : Kind → List ℕ
-kind_word kinds.Dir = codes "dir"
-
-abbrev pub limit_word : Limit → List ℕ
-limit_word limits.Inodes = codes "Inodes"
-
-abbrev pub code_words : Code → List (List ℕ)
-code_words refusals.BadPath = codes "BadPath" ∷ []
-code_words refusals.BadName = codes "BadName" ∷ []
-code_words refusals.NotFound = codes "NotFound" ∷ []
-code_words refusals.NotDir = codes "NotDir" ∷ []
-code_words refusals.Exists = codes "Exists" ∷ []
-code_words refusals.BadLayout = codes "BadLayout" ∷ []
-code_words (refusals.AtLimit limit) = codes "AtLimit" ∷ limit_word limit ∷ []
-
--- what a call was answered
-abbrev pub reply_words : Reply → List (List ℕ)
-reply_words (replies.Made id) = codes "made" ∷ decimal id ∷ []
-reply_words (replies.Found id kind) = codes "found" ∷ decimal id ∷ kind_word kind ∷ []
-reply_words (replies.Refused code) = code_words code
+call_word (calls.Create place mode layout) = codes "create"
+call_word (calls.Symlink place target) = codes "symlink"
+call_word (calls.Setattr place changes) = codes "setattr"
+call_word (calls.Link from to) = codes "link"
+call_word (calls.Unlink place) = codes "unlink"
+call_word (calls.Rmdir place) = codes "rmdir"
+call_word (calls.Rename from to) = codes "rename"
+call_word (calls.Open place) = codes "open"
+call_word (calls.Extend session place) = codes "extend"
+call_word (calls.Report session end truncs) = codes "report"
+call_word (calls.Fsync session) = codes "fsync"
+call_word (calls.Close session) = codes "close"
+call_word (calls.Truncate session length) = codes "truncate"
+call_word (calls.Purge inode) = codes "purge"
+call_word (calls.Reap inode) = codes "reap"
+call_word (calls.Prune living) = codes "prune"
+call_word (calls.Write session offset len fill) = codes "write"
+call_word (calls.Read inode offset len) = codes "read"
+call_word calls.Sweep = codes "sweep"
 
 -- the words of a receipt before those of its reply
 abbrev pub receipt_words : ℕ → Receipt → List (List ℕ)

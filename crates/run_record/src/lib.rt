@@ -1,8 +1,12 @@
 //! The record of a run, and the text of its replies.
 #![tactic(auto)]
 
+mod hex;
 mod replies;
+mod reply_text;
 mod run;
+#[cfg(test)]
+mod tests;
 
 pub use replies::write_replies;
 pub use run::{Listed, Receipt, Record, Summary};

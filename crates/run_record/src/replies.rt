@@ -1,10 +1,11 @@
 ghost use Rattle.std.specs.Prelude.{◌≡◌, ◌++◌, ◌∷◌, [], string_bytes, OnOk, IfOk};
 ghost use Rattle.std.specs.List.{flat_map};
-ghost use Rattle.run_record.specs.Replies.{call_word, code_words, end_line, header_line, mark_word, replies_text, reply_line, reply_words};
-ghost use Rattle.run_record.specs.Words.{line, number_word, spaced};
+ghost use Rattle.run_record.specs.Replies.{call_word, end_line, header_line, mark_word, replies_text, reply_line};
+ghost use Rattle.run_record.specs.Words.{number_word, spaced};
 
+use crate::reply_text::push_reply;
 use crate::run::{Listed, Record, Summary};
-use fs_base::{Call, Code, Config, Kind, Limit, Memory, Reply};
+use fs_base::{Call, Config, Memory};
 use std::alloc::{AllocError, Global};
 use std::fmt::Write;
 
@@ -74,43 +75,38 @@ fn mark_word(committed: bool) -> &'static str
     if committed { "commit" } else { "seen" }
 }
 
+/// A call's name.
 fn call_word(call: &Call) -> &'static str
     ensures { result.now ≡ call_word call.now }
 {
     match call {
         Call::Lookup(_) => "lookup",
+        Call::Stat(_) => "stat",
+        Call::List(_) => "list",
+        Call::Readlink(_) => "readlink",
+        Call::Openr(_) => "openr",
+        Call::Fstat(_) => "fstat",
+        Call::Doomed => "doomed",
         Call::Mkdir { .. } => "mkdir",
-    }
-}
-
-/// The words of a reply, to the end of its line.
-fn push_reply(out: &mut String, reply: &Reply) -> Result<(), AllocError>
-    ensures { OnOk result (string_bytes out.new ≡ string_bytes out.old ++ line (reply_words reply.now)) }
-{
-    match reply {
-        Reply::Made(id) => {
-            let id = id.get();
-            writeln!(out, "made {id}")
-        }
-        Reply::Found(id, Kind::Dir) => {
-            let id = id.get();
-            writeln!(out, "found {id} dir")
-        }
-        Reply::Refused(code) => push_code(out, *code),
-    }
-}
-
-fn push_code(out: &mut String, code: Code) -> Result<(), AllocError>
-    ensures { OnOk result (string_bytes out.new ≡ string_bytes out.old ++ line (code_words code)) }
-{
-    match code {
-        Code::BadPath => out.push_str("BadPath\n"),
-        Code::BadName => out.push_str("BadName\n"),
-        Code::NotFound => out.push_str("NotFound\n"),
-        Code::NotDir => out.push_str("NotDir\n"),
-        Code::Exists => out.push_str("Exists\n"),
-        Code::BadLayout => out.push_str("BadLayout\n"),
-        Code::AtLimit(Limit::Inodes) => out.push_str("AtLimit Inodes\n"),
+        Call::Create { .. } => "create",
+        Call::Symlink { .. } => "symlink",
+        Call::Setattr { .. } => "setattr",
+        Call::Link { .. } => "link",
+        Call::Unlink(_) => "unlink",
+        Call::Rmdir(_) => "rmdir",
+        Call::Rename { .. } => "rename",
+        Call::Open(_) => "open",
+        Call::Extend { .. } => "extend",
+        Call::Report { .. } => "report",
+        Call::Fsync(_) => "fsync",
+        Call::Close(_) => "close",
+        Call::Truncate { .. } => "truncate",
+        Call::Purge(_) => "purge",
+        Call::Reap(_) => "reap",
+        Call::Prune(_) => "prune",
+        Call::Write { .. } => "write",
+        Call::Read { .. } => "read",
+        Call::Sweep => "sweep",
     }
 }
 

@@ -1,9 +1,9 @@
 -- What each call does to the tree, and its reply.
-use Rattle.std.specs.Prelude.{ℕ, ◌+◌, ◌*◌, ◌==◌, Bool, true, if◌then◌else◌, List, Option, Some, None, unwrap_or, Result, Ok, Err}
+use Rattle.std.specs.Prelude.{ℕ, ◌+◌, ◌*◌, ◌==◌, Bool, true, false, if◌then◌else◌, List, Option, Some, None, unwrap_or, Result, Ok, Err}
 use Rattle.std.specs.FinMap.{get, insert}
 use Rattle.fs_base.specs.declared.call.Call.{Call}
 use Rattle.fs_base.specs.declared.call.Call.TheVariants as calls
-use Rattle.fs_base.specs.declared.call.DefaultLayout.{DefaultLayout}
+use Rattle.fs_base.specs.declared.layout.DefaultLayout.{DefaultLayout}
 use Rattle.fs_base.specs.declared.call.Place.{Place}
 use Rattle.fs_base.specs.declared.call.Request.{Request}
 use Rattle.fs_base.specs.declared.code.Code.{Code}
@@ -12,12 +12,12 @@ use Rattle.fs_base.specs.declared.code.Limit.TheVariants.{Inodes}
 use Rattle.fs_base.specs.declared.config.Config.{Config}
 use Rattle.fs_base.specs.declared.path.Path.{Path}
 use Rattle.fs_base.specs.declared.reply.Reply.{Reply}
-use Rattle.fs_base.specs.declared.reply.Reply.TheVariants.{Made, Found, Refused}
+use Rattle.fs_base.specs.declared.reply.Reply.TheVariants.{Made, Done, Found, Refused}
 use Rattle.fs_base.specs.Config.{admits}
 use Rattle.fs_base.specs.Paths.{path_of}
 use Rattle.tree_model.specs.declared.node.Node.{Node}
 use Rattle.tree_model.specs.declared.node.NodePart.{NodePart}
-use Rattle.tree_model.specs.declared.node.NodePart.TheVariants.{Dir}
+use Rattle.tree_model.specs.declared.node.NodePart.TheVariants.{Dir, File, Link}
 use Rattle.tree_model.specs.declared.walk.WalkEnd.TheVariants.{NoFollow, Parent}
 use Rattle.tree_model.specs.declared.walk.Walked.{Walked}
 use Rattle.tree_model.specs.declared.walk.Walked.TheVariants.{At, AtParent, NoName, Stopped}
@@ -77,13 +77,15 @@ add_numbered T q mode dir name layout =
     then refuses (codes.AtLimit Inodes)
     else Makes (with_child T q.server dir name (directory_of mode q.stamp layout)) (Made (id_of (next_at T.next q.server) q.server))
 
-abbrev pub default_of : NodePart → DefaultLayout
-default_of (Dir layout) = layout
-
 -- the given default layout, else the parent's
+abbrev pub add_in : Tree → Request → ℕ → Option DefaultLayout → ℕ → List ℕ → NodePart → Effect
+add_in T q mode given dir name (Dir layout) = add_numbered T q mode dir name (unwrap_or given layout)
+add_in T q mode given dir name (File length truncs layout hint) = refuses codes.NotDir
+add_in T q mode given dir name (Link target) = refuses codes.NotDir
+
 abbrev pub add_child : Tree → Request → ℕ → Option DefaultLayout → ℕ → List ℕ → Option Node → Effect
 add_child T q mode given dir name None = refuses codes.NotDir
-add_child T q mode given dir name (Some parent) = add_numbered T q mode dir name (unwrap_or given (default_of parent.part))
+add_child T q mode given dir name (Some parent) = add_in T q mode given dir name parent.part
 
 abbrev pub unless_there : Option ℕ → Effect → Effect
 unless_there None effect = effect
@@ -103,9 +105,17 @@ mkdir C T q place mode given = on_path (path_of place.text) (λ path.
 
 -- ---- the table
 
+-- the calls whose effect is told here
+abbrev pub is_built : Call → Bool
+is_built (calls.Lookup place) = true
+is_built (calls.Mkdir place mode layout) = true
+is_built _ = false
+
+-- the last line speaks of no call that is built
 abbrev pub effect_of : Config → Tree → Request → Call → Effect
 effect_of C T q (calls.Lookup place) = lookup T place
 effect_of C T q (calls.Mkdir place mode layout) = mkdir C T q place mode layout
+effect_of C T q _ = Leaves Done
 
 abbrev pub effect : Config → Tree → Request → Effect
 effect C T q = effect_of C T q q.call

@@ -3,17 +3,26 @@ use Rattle.std.specs.Prelude.{ℕ}
 use Rattle.std.specs.Option.{unwrap_or}
 use Rattle.std.specs.Ordering.{nat_cmp}
 use Rattle.std.specs.FinMap.{FinMap, empty, get, insert}
-use Rattle.fs_base.specs.declared.call.DefaultLayout.{DefaultLayout}
+use Rattle.fs_base.specs.declared.layout.DefaultLayout.{DefaultLayout}
 use Rattle.fs_base.specs.declared.config.Config.{Config}
+use Rattle.tree_model.specs.declared.kept.Doom.{Doom}
+use Rattle.tree_model.specs.declared.kept.KeptReply.{KeptReply}
 use Rattle.tree_model.specs.declared.node.Node.{Node}
 use Rattle.tree_model.specs.declared.node.NodePart.TheVariants.{Dir}
-use Rattle.tree_model.specs.Maps.{dent_cmp}
+use Rattle.tree_model.specs.declared.tree.TreeParts.{TreeParts}
+use Rattle.tree_model.specs.Maps.{dent_cmp, session_cmp}
 
 pub record Tree : Type 0 where
   -- by id
   pub nodes : FinMap nat_cmp Node
   -- by directory and name, the id that the entry leads to
   pub entries : FinMap dent_cmp ℕ
+  -- the write sessions: inode, client, number
+  pub writers : FinMap session_cmp (Unit {0})
+  -- by client, its last update that was answered Ok
+  pub kept : FinMap nat_cmp KeptReply
+  -- by id, the files that are being deleted
+  pub doomed : FinMap nat_cmp Doom
   -- by server, its next number, where it has given one
   pub next : FinMap nat_cmp ℕ
 
@@ -21,6 +30,10 @@ pub record Tree : Type 0 where
 pub record Served : Type 0 where
   pub config : Config
   pub tree : Tree
+
+-- the tree that these maps are
+abbrev pub of_parts : TreeParts → Tree
+of_parts p = record { nodes = p.nodes; entries = p.entries; writers = p.writers; kept = p.kept; doomed = p.doomed; next = p.next }
 
 -- a server's next number, 1 at first
 abbrev pub next_at : FinMap nat_cmp ℕ → ℕ → ℕ
@@ -34,4 +47,4 @@ abbrev pub root_of : Config → Node
 root_of C = directory_of 493 0 (record { chunk = C.chunk; stripe = C.stripe })
 
 abbrev pub new_tree : Config → Tree
-new_tree C = record { nodes = insert empty 0 (root_of C); entries = empty; next = empty }
+new_tree C = record { nodes = insert empty 0 (root_of C); entries = empty; writers = empty; kept = empty; doomed = empty; next = empty }

@@ -1,56 +1,113 @@
--- The walk of a path over the tree.
-use Rattle.std.specs.Prelude.{ℕ, ◌==◌, ◌||◌, Bool, true, false, if◌then◌else◌, List, [], ◌∷◌, Option, Some, None}
+-- The walk of a path over the tree: where it ends, and what it looks at.
+use Rattle.std.specs.Prelude.{ℕ, zero, suc, ◌==◌, Bool, true, false, if◌then◌else◌, List, [], ◌∷◌, ◌++◌, Option, Some, None, Result, Ok, Err}
 use Rattle.std.specs.FinMap.{get}
+use Rattle.fs_base.specs.declared.code.Code.{Code}
+use Rattle.fs_base.specs.declared.code.Code.TheVariants.{NotFound, NotDir, LinkLoop}
+use Rattle.fs_base.specs.declared.kind.Kind.TheVariants as kinds
 use Rattle.fs_base.specs.declared.path.Path.{Path}
-use Rattle.fs_base.specs.declared.reply.Kind.TheVariants as kinds
-use Rattle.fs_base.specs.declared.code.Code.TheVariants.{NotFound, NotDir}
+use Rattle.fs_base.specs.Paths.{path_of}
 use Rattle.tree_model.specs.declared.node.Node.{Node}
 use Rattle.tree_model.specs.declared.node.NodePart.{NodePart}
-use Rattle.tree_model.specs.declared.node.NodePart.TheVariants.{Dir}
+use Rattle.tree_model.specs.declared.node.NodePart.TheVariants.{Dir, File, Link}
 use Rattle.tree_model.specs.declared.walk.WalkEnd.{WalkEnd}
-use Rattle.tree_model.specs.declared.walk.WalkEnd.TheVariants.{NoFollow, Parent}
+use Rattle.tree_model.specs.declared.walk.WalkEnd.TheVariants.{Follow, NoFollow, Parent}
 use Rattle.tree_model.specs.declared.walk.Walked.{Walked}
 use Rattle.tree_model.specs.declared.walk.Walked.TheVariants.{At, AtParent, NoName, Stopped}
+use Rattle.tree_model.specs.Maps.{is_end}
 use Rattle.tree_model.specs.Tree.{Tree}
 
--- on in a directory, and no further in anything else
-abbrev pub in_part : NodePart → Walked → Walked
-in_part (Dir layout) walked = walked
+-- what a walk looks at: the inode of an id, or the entry of a name in a directory
+pub data Visit : Type 0 where
+  Inode : (id : ℕ) → Visit
+  Entry : (dir : ℕ) → (name : List ℕ) → Visit
 
-abbrev pub in_directory : Option Node → Walked → Walked
-in_directory None walked = Stopped NotDir
-in_directory (Some node) walked = in_part node.part walked
+-- where a walk ends, and what it looks at on the way, in order
+pub record Trip : Type 0 where
+  pub end : Walked
+  pub visits : List Visit
 
--- where no name is left
+abbrev pub stay : Walked → Trip
+stay walked = record { end = walked; visits = [] }
+
+abbrev pub visiting : Visit → Trip → Trip
+visiting visit trip = record { end = trip.end; visits = visit ∷ trip.visits }
+
+-- at a directory, where no name is left
 abbrev pub ends_at : WalkEnd → ℕ → Walked
 ends_at Parent here = NoName here
+ends_at Follow here = At here kinds.Dir
 ends_at NoFollow here = At here kinds.Dir
+
+-- at a file: a name after it wants a directory
+abbrev pub at_file : ℕ → List (List ℕ) → Walked
+at_file id names = if is_end names then At id kinds.File else Stopped NotDir
 
 -- the last name, where the call wants its directory
 abbrev pub is_last_of_parent : WalkEnd → List (List ℕ) → Bool
 is_last_of_parent Parent [] = true
-is_last_of_parent end names = false
+is_last_of_parent _ _ = false
 
--- on from an entry's target
-abbrev pub at_entry : (ℕ → Walked) → Option ℕ → Walked
-at_entry below None = Stopped NotFound
-at_entry below (Some id) = below id
+-- the last name, where the call doesn't follow a link
+abbrev pub is_last_unfollowed : WalkEnd → List (List ℕ) → Bool
+is_last_unfollowed NoFollow [] = true
+is_last_unfollowed _ _ = false
 
--- down one entry for each name
-unfoldable pub down : Tree → WalkEnd → List (List ℕ) → ℕ → Walked
-down T end [] here = ends_at end here
-down T end (name ∷ names) here =
-    in_directory (get T.nodes here)
-    (if is_last_of_parent end names then AtParent here name else at_entry (down T end names) (get T.entries (here, name)))
+-- what lies behind a link: its id, the directory that holds it, its target, and the names after it
+abbrev pub Behind : Type 0
+Behind = ℕ → ℕ → List ℕ → List (List ℕ) → Trip
+
+-- the target's names come before those that are left; the walk goes on from the root or from the link's directory
+abbrev pub on_target : (List (List ℕ) → ℕ → Trip) → ℕ → List (List ℕ) → Result Path Code → Trip
+on_target go here names (Err code) = stay (Stopped code)
+on_target go here names (Ok path) = go (path.names ++ names) (if path.absolute then 0 else here)
+
+abbrev pub at_link : Behind → WalkEnd → ℕ → ℕ → List ℕ → List (List ℕ) → Trip
+at_link follow end here id target names =
+    if is_last_unfollowed end names then stay (At id kinds.Link) else follow id here target names
+
+-- on from an entry's target; below is the walk of the names after it from there
+abbrev pub at_part : Behind → WalkEnd → ℕ → ℕ → List (List ℕ) → Trip → NodePart → Trip
+at_part follow end here id names below (Dir layout) = below
+at_part follow end here id names below (File length truncs layout hint) = stay (at_file id names)
+at_part follow end here id names below (Link target) = at_link follow end here id target names
+
+abbrev pub at_node : Behind → WalkEnd → ℕ → ℕ → List (List ℕ) → Trip → Option Node → Trip
+at_node follow end here id names below None = stay (Stopped NotFound)
+at_node follow end here id names below (Some node) = at_part follow end here id names below node.part
+
+abbrev pub at_entry : Behind → Tree → WalkEnd → ℕ → List (List ℕ) → (ℕ → Trip) → Option ℕ → Trip
+at_entry follow T end here names below None = stay (Stopped NotFound)
+at_entry follow T end here names below (Some id) = at_node follow end here id names (below id) (get T.nodes id)
+
+-- the names from directory here on; follow goes on behind a link
+abbrev pub down : Behind → Tree → WalkEnd → List (List ℕ) → ℕ → Trip
+down follow T end [] here = stay (ends_at end here)
+down follow T end (name ∷ names) here =
+    if is_last_of_parent end names
+    then stay (AtParent here name)
+    else visiting (Entry here name) (at_entry follow T end here names (down follow T end names) (get T.entries (here, name)))
+
+-- with so many links that may still be followed; a link that may not is refused at its entry
+abbrev pub walk : ℕ → Tree → WalkEnd → List (List ℕ) → ℕ → Trip
+walk zero T end = down (λ _ _ _ _. stay (Stopped LinkLoop)) T end
+walk (suc left) T end = down (λ id here target names. visiting (Inode id) (on_target (walk left T end) here names (path_of target))) T end
 
 -- from a base that has still to be looked at
-abbrev pub from_base : Option Node → Walked → Walked
-from_base None walked = Stopped NotFound
-from_base (Some node) walked = in_part node.part walked
+abbrev pub if_dir : NodePart → Trip → Trip
+if_dir (Dir layout) trip = trip
+if_dir (File length truncs layout hint) trip = stay (Stopped NotDir)
+if_dir (Link target) trip = stay (Stopped NotDir)
 
--- a path that isn't absolute starts at a base, which is in use only then
-unfoldable pub resolve : Tree → ℕ → Path → WalkEnd → Walked
-resolve T base path end =
-    if path.absolute || base == 0
-    then down T end path.names 0
-    else from_base (get T.nodes base) (down T end path.names base)
+abbrev pub from_base : Option Node → Trip → Trip
+from_base None trip = stay (Stopped NotFound)
+from_base (Some node) trip = if_dir node.part trip
+
+-- a path that isn't absolute starts at a base, which is looked at unless it is the root
+abbrev pub travel : Tree → ℕ → Path → WalkEnd → Trip
+travel T base path end =
+    if path.absolute
+    then walk 10 T end path.names 0
+    else (if base == 0 then walk 10 T end path.names 0 else visiting (Inode base) (from_base (get T.nodes base) (walk 10 T end path.names base)))
+
+abbrev pub resolve : Tree → ℕ → Path → WalkEnd → Walked
+resolve T base path end = (travel T base path end).end

@@ -2,15 +2,21 @@
 #![tactic(auto)]
 
 mod apply;
+mod kept;
 mod lookup;
 mod make;
 mod maps;
+mod names;
 mod node;
 mod tree;
 mod walk;
+mod walking;
 
+pub use apply::is_built;
+pub use kept::{Doom, KeptReply};
 pub use make::is_layout;
-pub use maps::{ByName, ByNumber};
+pub use maps::{ByClient, ByName, ByNumber, BySession};
+pub use names::Names;
 pub use node::{Node, NodePart};
-pub use tree::Tree;
+pub use tree::{Tree, TreeParts};
 pub use walk::{WalkEnd, Walked};

@@ -55,13 +55,15 @@ impl Tree {
         let Some(parent) = self.node(key.0) else {
             return Plan::Refuse(Code::NotDir);
         };
-        let NodePart::Dir { layout } = parent.part;
+        let NodePart::Dir { layout } = &parent.part else {
+            return Plan::Refuse(Code::NotDir);
+        };
         let number = self.next_number(request.server);
         if number == u32::MAX {
             return Plan::Refuse(Code::AtLimit(Limit::Inodes));
         }
         let id = InodeId::new(16 * u64::from(number) + u64::from(request.server));
-        let node = Node::directory(mode, request.stamp, given.unwrap_or(layout));
+        let node = Node::directory(mode, request.stamp, given.unwrap_or(*layout));
         Plan::Add(Child {
             key,
             number,

@@ -55,10 +55,12 @@ impl<V: Drop> ByNumber<V> {
         Ok(self.pairs.insert(key, value)?)
     }
 
-    fn remove(&mut self, key: u64)
-        ensures { self.new ≡ map.remove self.old key }
+    /// Takes the key's value away, and gives it back.
+    pub fn remove(&mut self, key: u64) -> Option<V>
+        ensures before { result ≡ map.get self.old key }
+        ensures removed { self.new ≡ map.remove self.old key }
     {
-        self.pairs.remove(&key);
+        self.pairs.remove(&key)
     }
 
     /// Gives a key that has a value this value, or none. It takes no memory.
@@ -72,7 +74,9 @@ impl<V: Drop> ByNumber<V> {
                     unreachable!()
                 }
             }
-            None => self.remove(key),
+            None => {
+                self.remove(key);
+            }
         }
     }
 }
@@ -115,12 +119,134 @@ impl<V> ByName<V> {
 }
 
 impl<V: Drop> ByName<V> {
-    /// Gives the key this value, and gives back the one before.
+    /// Gives the key this value, and gives back the one before. Only a key without a value takes memory.
     pub fn insert(&mut self, key: (u64, Name), value: V) -> Result<Option<V>, Memory>
         ensures before { IfOk result (λ before. before ≡ map.get self.old key) }
         ensures ok { OnOk result (self.new ≡ map.insert self.old key value) }
         ensures err { OnErr result (self.new ≡ self.old) }
+        ensures absent { OnErr result (map.get self.old key ≡ None) }
     {
         Ok(self.pairs.insert(key, value)?)
+    }
+
+    /// Takes the key's value away, and gives it back.
+    pub fn remove(&mut self, key: &(u64, Name)) -> Option<V>
+        ensures before { result ≡ map.get self.old key.now }
+        ensures removed { self.new ≡ map.remove self.old key.now }
+    {
+        self.pairs.remove(key)
+    }
+}
+
+/// A map from write sessions: the number of the inode, the client, and the number of the session.
+#[derive(Drop)]
+pub struct BySession<V> {
+    pairs: BTreeMap<(u64, (u128, u64)), V>,
+}
+
+impl<V> Model for BySession<V> {
+    ghost use Rattle.std.specs.Prelude.{ℕ};
+    ghost use Rattle.std.specs.FinMap as map;
+    ghost use Rattle.std.specs.Coded.{coded_ℕ, coded×};
+    ghost use Rattle.tree_model.specs.Maps.{session_cmp};
+
+    ghost Value = { map.FinMap session_cmp V };
+
+    ghost coded = { map.code (coded× coded_ℕ (coded× coded_ℕ coded_ℕ)) V.code };
+
+    ghost view = { λ a. map.from_entries a.pairs.entries };
+}
+
+impl<V> BySession<V> {
+    /// A map without keys.
+    pub fn new(alloc: Global) -> BySession<V>
+        ensures { result ≡ map.empty }
+    {
+        BySession {
+            pairs: BTreeMap::new(alloc),
+        }
+    }
+
+    /// The value at the key.
+    pub fn get(&self, key: (u64, (u128, u64))) -> Option<&V>
+        ensures { option_copied result ≡ map.get self.now key }
+    {
+        self.pairs.get(&key)
+    }
+}
+
+impl<V: Drop> BySession<V> {
+    /// Gives the key this value, and gives back the one before. Only a key without a value takes memory.
+    pub fn insert(&mut self, key: (u64, (u128, u64)), value: V) -> Result<Option<V>, Memory>
+        ensures before { IfOk result (λ before. before ≡ map.get self.old key) }
+        ensures ok { OnOk result (self.new ≡ map.insert self.old key value) }
+        ensures err { OnErr result (self.new ≡ self.old) }
+        ensures absent { OnErr result (map.get self.old key ≡ None) }
+    {
+        Ok(self.pairs.insert(key, value)?)
+    }
+
+    /// Takes the key's value away, and gives it back.
+    pub fn remove(&mut self, key: (u64, (u128, u64))) -> Option<V>
+        ensures before { result ≡ map.get self.old key }
+        ensures removed { self.new ≡ map.remove self.old key }
+    {
+        self.pairs.remove(&key)
+    }
+}
+
+/// A map from clients, by the numbers that their UUIDs are.
+#[derive(Drop)]
+pub struct ByClient<V> {
+    pairs: BTreeMap<u128, V>,
+}
+
+impl<V> Model for ByClient<V> {
+    ghost use Rattle.std.specs.Ordering.{nat_cmp};
+    ghost use Rattle.std.specs.FinMap as map;
+    ghost use Rattle.std.specs.Coded.{coded_ℕ};
+
+    ghost Value = { map.FinMap nat_cmp V };
+
+    ghost coded = { map.code coded_ℕ V.code };
+
+    ghost view = { λ a. map.from_entries a.pairs.entries };
+}
+
+impl<V> ByClient<V> {
+    /// A map without keys.
+    pub fn new(alloc: Global) -> ByClient<V>
+        ensures { result ≡ map.empty }
+    {
+        ByClient {
+            pairs: BTreeMap::new(alloc),
+        }
+    }
+
+    /// The value at the key.
+    pub fn get(&self, key: u128) -> Option<&V>
+        ensures { option_copied result ≡ map.get self.now key }
+    {
+        self.pairs.get(&key)
+    }
+}
+
+impl<V: Drop> ByClient<V> {
+    /// Gives the key this value, and gives back the one before. Only a key without a value takes memory.
+    pub fn insert(&mut self, key: u128, value: V) -> Result<Option<V>, Memory>
+        ensures before { IfOk result (λ before. before ≡ map.get self.old key) }
+        ensures ok { OnOk result (self.new ≡ map.insert self.old key value) }
+        ensures err { OnErr result (self.new ≡ self.old) }
+        ensures absent { OnErr result (map.get self.old key ≡ None) }
+    {
+        Ok(self.pairs.insert(key, value)?)
+    }
+
+    /// Takes the key's value away, and gives it back.
+    pub fn remove(&mut self, key: u128) -> Option<V>
+        ensures before { result ≡ map.get self.old key }
+        ensures removed { self.new ≡ map.remove self.old key }
+    {
+        self.pairs.remove(&key)
     }
 }

@@ -1,15 +1,33 @@
-use fs_base::{Config, DefaultLayout};
+ghost use Rattle.std.specs.Prelude.{◌≡◌};
+ghost use Rattle.tree_model.specs.Tree.{root_of, directory_of};
 
-/// What a node is. Files and links come with the calls that make them.
-#[derive(Clone, Copy, Debug, PartialEq, Eq)]
+use fs_base::{Config, DefaultLayout, Layout, Text};
+
+/// What a node is.
+#[derive(Debug, Drop)]
 pub enum NodePart {
-    Dir { layout: DefaultLayout },
+    /// A directory, with the default layout of the files made in it.
+    Dir {
+        layout: DefaultLayout,
+    },
+    /// A regular file: its length in bytes, how often it was truncated, its layout, and how many
+    /// places of the layout are in use.
+    File {
+        length: u64,
+        truncs: u32,
+        layout: Layout,
+        hint: u16,
+    },
+    /// A symbolic link, with the path that it stands for.
+    Link {
+        target: Text,
+    },
 }
 
 /// An inode of the plain tree. It knows neither its id, its names nor the directory that it is in.
 ///
-/// Times are stamps of requests, below 2^53.
-#[derive(Clone, Copy, Debug, PartialEq, Eq)]
+/// The mode is the twelve permission bits, below 4,096. Times are stamps of requests, below 2^53.
+#[derive(Debug, Drop)]
 pub struct Node {
     pub mode: u16,
     pub owner: u32,
@@ -21,9 +39,6 @@ pub struct Node {
 }
 
 impl Node {
-    ghost use Rattle.std.specs.Prelude.{◌≡◌};
-    ghost use Rattle.tree_model.specs.Tree.{root_of, directory_of};
-
     /// The root directory of a configuration: mode 755, and times 0.
     pub fn root(config: &Config) -> Node
         ensures { result ≡ root_of config.now }

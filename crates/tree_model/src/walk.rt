@@ -1,17 +1,18 @@
-ghost use Rattle.std.specs.Prelude.{◌≡◌, IfOk};
-ghost use Rattle.std.specs.FinMap.{get};
-ghost use Rattle.tree_model.specs.Walk.{down, resolve};
+ghost use Rattle.std.specs.Prelude.{◌≡◌};
+ghost use Rattle.tree_model.specs.Calls.{found_of};
+ghost use Rattle.tree_model.specs.Walk.{ends_at, at_file, is_last_of_parent, is_last_unfollowed};
 
-use crate::tree::Tree;
-use fs_base::{Code, InodeId, Kind, Memory, Name, Path, Reply};
-use std::alloc::Global;
+use crate::names::Names;
+use fs_base::{Code, InodeId, Kind, Name, Reply};
 
 /// What a call wants of a walk: the node at its end, or the directory that holds the last name.
 #[derive(Clone, Copy, Debug, PartialEq, Eq)]
 pub enum WalkEnd {
-    /// The node that the last name leads to.
+    /// The node that the path leads to.
+    Follow,
+    /// The node that the last name leads to, also where it is a link.
     NoFollow,
-    /// The directory that the last name is in.
+    /// The directory that the last name is in. The last name itself isn't looked up.
     Parent,
 }
 
@@ -29,33 +30,51 @@ pub enum Walked {
 }
 
 impl WalkEnd {
-    ghost use Rattle.std.specs.Prelude.{◌≡◌};
-    ghost use Rattle.tree_model.specs.Walk.{ends_at, is_last_of_parent};
-
     /// What a walk comes to that has no names left.
     pub fn at(self, here: InodeId) -> Walked
         ensures { result ≡ ends_at self here }
     {
         match self {
+            WalkEnd::Follow => Walked::At(here, Kind::Dir),
             WalkEnd::NoFollow => Walked::At(here, Kind::Dir),
             WalkEnd::Parent => Walked::NoName(here),
         }
     }
 
     /// Whether a walk ends before a name, with these names behind it.
-    pub fn is_before_last(self, names: &[Name]) -> bool
-        ensures { result ≡ is_last_of_parent self names.now }
+    pub fn is_last_of_parent(self, rest: &Names) -> bool
+        ensures { result ≡ is_last_of_parent self rest.now }
     {
         match self {
+            WalkEnd::Follow => false,
             WalkEnd::NoFollow => false,
-            WalkEnd::Parent => names.is_empty(),
+            WalkEnd::Parent => rest.is_empty(),
+        }
+    }
+
+    /// Whether a walk ends at a link that it doesn't follow, with these names behind it.
+    pub fn is_last_unfollowed(self, rest: &Names) -> bool
+        ensures { result ≡ is_last_unfollowed self rest.now }
+    {
+        match self {
+            WalkEnd::Follow => false,
+            WalkEnd::NoFollow => rest.is_empty(),
+            WalkEnd::Parent => false,
         }
     }
 }
 
 impl Walked {
-    ghost use Rattle.std.specs.Prelude.{◌≡◌};
-    ghost use Rattle.tree_model.specs.Calls.{found_of};
+    /// What a walk comes to at a file, with these names behind it.
+    pub(crate) fn at_file(id: InodeId, rest: &Names) -> Walked
+        ensures { result ≡ at_file id rest.now }
+    {
+        if rest.is_empty() {
+            Walked::At(id, Kind::File)
+        } else {
+            Walked::Stopped(Code::NotDir)
+        }
+    }
 
     /// The reply to a lookup whose walk came to this.
     pub fn found(self) -> Reply
@@ -67,56 +86,5 @@ impl Walked {
             Walked::AtParent(_, _) => Reply::Refused(Code::NotDir),
             Walked::NoName(_) => Reply::Refused(Code::NotDir),
         }
-    }
-}
-
-impl Tree {
-    /// Down one entry for each name.
-    #[tactic(auto, unfolding(crate::specs::Walk::down))]
-    fn down(
-        &self,
-        alloc: Global,
-        end: WalkEnd,
-        names: &[Name],
-        start: InodeId,
-    ) -> Result<Walked, Memory>
-        ensures { IfOk result (λ walked. walked ≡ down self.now.tree end names.now start) }
-    {
-        let mut here = start;
-        for (i, name) in names.iter().enumerate() {
-            if self.node(here.get()).is_none() {
-                return Ok(Walked::Stopped(Code::NotDir));
-            }
-            let name = name.try_clone(alloc)?;
-            if end.is_before_last(&names[i + 1..]) {
-                return Ok(Walked::AtParent(here, name));
-            }
-            let Some(id) = self.entry(&(here.get(), name)) else {
-                return Ok(Walked::Stopped(Code::NotFound));
-            };
-            here = id;
-        }
-        Ok(end.at(here))
-    }
-
-    /// Where a path leads from a base.
-    #[tactic(auto, unfolding(crate::specs::Walk::resolve))]
-    pub(crate) fn resolve(
-        &self,
-        alloc: Global,
-        base: InodeId,
-        path: &Path,
-        end: WalkEnd,
-    ) -> Result<Walked, Memory>
-        ensures { IfOk result (λ walked. walked ≡ resolve self.now.tree base path.now end) }
-    {
-        let names = path.names.as_slice();
-        if path.absolute || base.get() == 0 {
-            return self.down(alloc, end, names, InodeId::root());
-        }
-        if self.node(base.get()).is_none() {
-            return Ok(Walked::Stopped(Code::NotFound));
-        }
-        self.down(alloc, end, names, base)
     }
 }

@@ -1,8 +1,13 @@
-use Rattle.std.proofs.Common.{ap, sym, ◌∙◌}
+use Rattle.std.proofs.Common.{rules, ◌≡◌, None, ap, sym, ◌∙◌}
 use Rattle.std.specs.Prelude.{Some}
 use Rattle.std.specs.FinMap as map
 use Rattle.tree_model.proofs.MapLaws.{names, get_entries, set_entries}
 use Rattle.tree_model.proofs.maps.ByName.insert.Goals as goal
+
+pub returns-in_err-insert-clause-absent : goal.returns-in_err-insert-clause-absent
+returns-in_err-insert-clause-absent g c =
+    let none : map.get c.args.self.now c.args.key ≡ None = ap (λ m. map.get m c.args.key) (sym c.self.view_is) ∙ get_entries names c.self.inside.pairs.entries c.args.key ∙ c.in_err-insert.ensures.absent in
+    search rules
 
 pub returns-clause-before : goal.returns-clause-before
 returns-clause-before g c = c.in_ok-insert.ensures.old ∙ sym (get_entries names c.self.inside.pairs.entries c.args.key) ∙ ap (λ m. map.get m c.args.key) c.self.view_is

@@ -1,0 +1,7 @@
+use Rattle.std.proofs.Common.{ap, sym, ◌∙◌}
+use Rattle.std.specs.FinMap as map
+use Rattle.tree_model.proofs.MapLaws.{holders, get_entries}
+use Rattle.tree_model.proofs.maps.BySession.get.Goals as goal
+
+pub returns : goal.returns
+returns g c = c.get.ensures.value ∙ sym (get_entries holders c.self.inside.pairs.entries c.args.key) ∙ ap (λ m. map.get m c.args.key) c.self.view_is
