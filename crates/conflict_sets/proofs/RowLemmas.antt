@@ -93,6 +93,15 @@ value-with_write_same k v (row ∷ rows) h =
     (λ e. rw (with_write_equal k v row rows e) (same_new k v rows (rw (key_exact k row.key e) h.0)))
     (λ e. rw (with_write_greater k v row rows e) (rw e (value-with_write_same k v rows h.1)))
 
+-- the value of any key after one write
+pub value-with_write : (k q : List ℕ) (v : Option (List ℕ)) (rows : List Row) → IsAscending rows → value_at_key (with_write k v rows) q ≡ cond (is_eq (key_cmp q k)) v (value_at_key rows q)
+value-with_write k q v rows h =
+    (elim (key_cmp q k) as (λ o. key_cmp q k ≡ o → value_at_key (with_write k v rows) q ≡ cond (is_eq o) v (value_at_key rows q)) [
+      | Less ↦ λ e. value-with_write_other k q v rows (rw e refl)
+      | Equal ↦ λ e. rw (key_exact q k e) (value-with_write_same k v rows h)
+      | Greater ↦ λ e. value-with_write_other k q v rows (rw e refl)
+    ]) refl
+
 -- a range that doesn't have the key stays
 filter_new : (lo hi k : List ℕ) (v : Option (List ℕ)) (rows : List Row) → is_inside lo hi k ≡ false → filter (λ (row : Row). is_inside lo hi row.key) (new_row k v ++ rows) ≡ filter (λ (row : Row). is_inside lo hi row.key) rows
 filter_new lo hi k None rows n = refl

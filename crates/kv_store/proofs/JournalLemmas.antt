@@ -2,7 +2,6 @@
 use Rattle.std.proofs.Common.{◌≡◌, ℕ, ◌<◌, ◌+◌, List, [], ◌∷◌, ◌++◌, Option, Some, None, Bool, true, false, cond, length, take, drop, get_or, ◌∙◌, ap, refl, arith}
 use Rattle.std.specs.Prelude.{unwrap_or}
 use Rattle.std.specs.Ordering.{is_eq}
-use Rattle.std.specs.declared.cmp.Ordering.TheVariants.{Less, Equal, Greater}
 use Rattle.std.proofs.lemmas.List.{take_more, drop_more, take_all}
 use Rattle.conflict_sets.specs.Keys.{key_cmp}
 use Rattle.conflict_sets.specs.Rows.{IsAscending, with_write, with_writes, value_at_key}
@@ -11,8 +10,7 @@ use Rattle.fs_base.specs.declared.row.Row.{Row}
 use Rattle.conflict_sets.specs.declared.sets.Write.{Write}
 use Rattle.conflict_sets.specs.declared.sets.ReadSet.{ReadSet}
 use Rattle.conflict_sets.specs.declared.sets.WriteSet.{WriteSet}
-use Rattle.conflict_sets.proofs.KeyOrder.{key_exact}
-use Rattle.conflict_sets.proofs.RowLemmas.{value-with_write_same, value-with_write_other, IsAscending-with_write, IsAscending-with_writes}
+use Rattle.conflict_sets.proofs.RowLemmas.{value-with_write, IsAscending-with_write, IsAscending-with_writes}
 use Rattle.kv_store.specs.Journal.{after_all, rows_at, written_value, or_else, is_written, writer_from, last_writer, this_or, later_from}
 
 -- one more write
@@ -25,15 +23,6 @@ written_value-push (x ∷ writes) w key =
     inside : (b : Bool) (o p : Option (Option (List ℕ))) → or_else (cond b (Some w.value) o) p ≡ cond b (Some w.value) (or_else o p)
     inside true o p = refl
     inside false o p = refl
-
--- a key after one write
-pub value-with_write : (k q : List ℕ) (v : Option (List ℕ)) (rows : List Row) → IsAscending rows → value_at_key (with_write k v rows) q ≡ cond (is_eq (key_cmp q k)) v (value_at_key rows q)
-value-with_write k q v rows h =
-    (elim (key_cmp q k) as (λ o. key_cmp q k ≡ o → value_at_key (with_write k v rows) q ≡ cond (is_eq o) v (value_at_key rows q)) [
-      | Less ↦ λ e. value-with_write_other k q v rows (rw e refl)
-      | Equal ↦ λ e. rw (key_exact q k e) (value-with_write_same k v rows h)
-      | Greater ↦ λ e. value-with_write_other k q v rows (rw e refl)
-    ]) refl
 
 -- a key after some writes
 pub value-with_writes : (rows : List Row) (writes : List Write) (q : List ℕ) → IsAscending rows → value_at_key (with_writes rows writes) q ≡ unwrap_or (written_value writes q) (value_at_key rows q)

@@ -4,3 +4,4 @@ pub mod Causes
 pub mod Place
 pub mod Commits
 pub mod Later
+pub mod TwoKeys
