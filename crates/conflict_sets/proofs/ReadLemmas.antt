@@ -7,7 +7,7 @@ use Rattle.std.specs.declared.cmp.Ordering.{Ordering}
 use Rattle.std.specs.declared.cmp.Ordering.TheVariants.{Less, Equal, Greater}
 use Rattle.std.proofs.lemmas.Bool.{and_cases, or_parts, eqb-true}
 use Rattle.conflict_sets.specs.Keys.{key_cmp}
-use Rattle.conflict_sets.specs.Rows.{KeysAbove, IsAscending, is_inside, rows_between, with_write, with_writes}
+use Rattle.conflict_sets.specs.Rows.{KeysAbove, KeysBefore, IsAscending, is_inside, rows_between, with_write, with_writes}
 use Rattle.conflict_sets.specs.Reads.{KeysAgree, RangesAgree, Agrees, is_up_to_last, range_holds, reads_hold, first_held}
 use Rattle.fs_base.specs.declared.row.Row.{Row}
 use Rattle.conflict_sets.specs.declared.sets.Write.{Write}
@@ -16,11 +16,6 @@ use Rattle.conflict_sets.specs.declared.sets.RangeRead.{RangeRead}
 use Rattle.conflict_sets.specs.declared.sets.ReadSet.{ReadSet}
 use Rattle.conflict_sets.proofs.KeyOrder.{key_exact, key_less_flips, key_greater_flips, key_trans}
 use Rattle.conflict_sets.proofs.RowLemmas.{KeysAbove_lower, by_place, with_write_greater, filter-with_write, value-with_write_other, IsAscending-with_write}
-
--- each key comes before this one
-abbrev pub KeysBefore : List ℕ → List Row → Type 0
-KeysBefore k [] = Unit {0}
-KeysBefore k (row ∷ rows) = (key_cmp k row.key ≡ Greater) × KeysBefore k rows
 
 abbrev inside_rows : List ℕ → List ℕ → List Row → List Row
 inside_rows lo hi rows = filter (λ row. is_inside lo hi row.key) rows

@@ -12,6 +12,11 @@ abbrev pub KeysAbove : List ℕ → List Row → Type 0
 KeysAbove key [] = Unit {0}
 KeysAbove key (row ∷ rows) = (key_cmp key row.key ≡ Less) × KeysAbove key rows
 
+-- each key comes before this one
+abbrev pub KeysBefore : List ℕ → List Row → Type 0
+KeysBefore key [] = Unit {0}
+KeysBefore key (row ∷ rows) = (key_cmp key row.key ≡ Greater) × KeysBefore key rows
+
 -- keys ascend, so each stands once
 abbrev pub IsAscending : List Row → Type 0
 IsAscending [] = Unit {0}

@@ -9,7 +9,8 @@ use Rattle.conflict_sets.specs.Keys.{key_cmp}
 use Rattle.conflict_sets.specs.Rows.{new_row, with_write}
 use Rattle.fs_base.specs.declared.row.Row.{Row}
 use Rattle.conflict_sets.proofs.RowLemmas.{by_place, with_write_less, with_write_equal, with_write_greater}
-use Rattle.kv_store.specs.Place.{KeysBefore, IsPlace, has_key}
+use Rattle.conflict_sets.specs.Rows.{KeysBefore}
+use Rattle.kv_store.specs.Place.{IsPlace, has_key}
 
 -- the rows before the place stay
 pub with_write_at : (k : List ℕ) (v : Option (List ℕ)) (rows : List Row) (p : ℕ) → KeysBefore k (take p rows) → with_write k v rows ≡ take p rows ++ with_write k v (drop p rows)

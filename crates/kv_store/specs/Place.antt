@@ -1,14 +1,9 @@
 -- The place of a key among rows.
-use Rattle.std.specs.Prelude.{◌≡◌, ℕ, ◌≤◌, List, [], ◌∷◌, Option, Some, None, Bool, true, false, length, take, slice_get}
+use Rattle.std.specs.Prelude.{◌≡◌, ℕ, ◌≤◌, List, Option, Some, None, Bool, true, false, length, take, slice_get}
 use Rattle.std.specs.Ordering.{is_eq, is_le}
-use Rattle.std.specs.declared.cmp.Ordering.TheVariants.{Greater}
 use Rattle.conflict_sets.specs.Keys.{key_cmp}
+use Rattle.conflict_sets.specs.Rows.{KeysBefore}
 use Rattle.fs_base.specs.declared.row.Row.{Row}
-
--- each key comes before this one
-abbrev pub KeysBefore : List ℕ → List Row → Type 0
-KeysBefore key [] = Unit {0}
-KeysBefore key (row ∷ rows) = (key_cmp key row.key ≡ Greater) × KeysBefore key rows
 
 -- the rows before this place come before the key, and the row there does not
 pub record IsPlace (rows : List Row) (key : List ℕ) (place : ℕ) : Type 0 where

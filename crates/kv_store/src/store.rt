@@ -50,7 +50,7 @@ pub struct Refused<E> {
 impl<E: EntryLaw> KvState<E> {
     ghost use Rattle.kv_store.specs.Causes.{HasCause};
 
-    /// A store with these rows and an empty journal.
+    /// A store with these rows and an empty journal. The rows are moved in, not copied.
     pub fn new(alloc: Global, config: &Config, rows: Items<Row>) -> Result<KvState<E>, Memory>
         requires ascending { IsAscending rows }
         requires good { E.good config.now rows }
@@ -118,6 +118,9 @@ impl<E: EntryLaw> KvState<E> {
 
     /// Adds an entry whose reads agree with the rows at `snapshot`, unless an entry after that version wrote
     /// something that it read. It takes its memory first.
+    ///
+    /// This is the optimistic rule of FoundationDB's documentation: a transaction reads at one version, and
+    /// conflicts where a later commit wrote what it read.
     pub fn commit(&mut self, snapshot: u64, entry: E) -> Result<u64, Refused<E>>
         requires snapshot { snapshot ≤ length self.old.journal }
         requires sound { E.sound self.old.config entry }
