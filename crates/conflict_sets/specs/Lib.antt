@@ -1,0 +1,5 @@
+pub mod Keys
+pub mod Rows
+pub mod Writes
+pub mod Reads
+pub mod Held

@@ -1,0 +1,4 @@
+pub mod JournalLemmas
+pub mod PlaceLemmas
+pub mod RunLemmas
+pub mod LaterLemmas

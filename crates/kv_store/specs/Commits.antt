@@ -1,0 +1,15 @@
+-- A journal of optimistic commits.
+use Rattle.std.specs.Prelude.{◌≡◌, ℕ, ◌≤◌, List, [], ◌∷◌, ◌++◌, None, length}
+use Rattle.conflict_sets.specs.Reads.{Agrees}
+use Rattle.fs_base.specs.declared.row.Row.{Row}
+use Rattle.conflict_sets.specs.declared.sets.ReadSet.{ReadSet}
+use Rattle.conflict_sets.specs.declared.sets.WriteSet.{WriteSet}
+use Rattle.kv_store.specs.Journal.{rows_at, first_later}
+
+-- each entry is sound, agreed with the rows at its snapshot, and met no later write of what it read; done are the entries before
+abbrev pub IsCommitted : {E : Type 0} → (E → ReadSet) → (E → WriteSet) → (E → Type 0) → List Row → List E → List ℕ → List E → Type 0
+IsCommitted reads_of writes_of sound opening done snapshots [] = Unit {0}
+IsCommitted reads_of writes_of sound opening done [] (entry ∷ entries) = ⊥
+IsCommitted reads_of writes_of sound opening done (snapshot ∷ snapshots) (entry ∷ entries) =
+    sound entry × (snapshot ≤ length done) × Agrees (rows_at writes_of opening done snapshot) (reads_of entry) × (first_later writes_of done snapshot (reads_of entry) ≡ None)
+    × IsCommitted reads_of writes_of sound opening (done ++ entry ∷ []) snapshots entries
