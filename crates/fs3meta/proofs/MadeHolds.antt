@@ -50,12 +50,13 @@ alloc_not_dent server dir name e = absurd cc
 abbrev entry_of_key : Key → ℕ × List ℕ
 entry_of_key (Inode id) = (id, [])
 entry_of_key (Dent dir name) = (dir, name)
-entry_of_key (Alloc server) = (server, [])
+entry_of_key _ = (0, [])
 
 abbrev number_of_key : Key → ℕ
 number_of_key (Inode id) = id
 number_of_key (Dent dir name) = dir
 number_of_key (Alloc server) = server
+number_of_key _ = 0
 
 -- ---- the three puts of a child
 
