@@ -1,0 +1,5 @@
+pub mod Bytes
+pub mod FieldLaws
+pub mod FormLaws
+pub mod Numbers
+pub mod Spellings
