@@ -1,10 +1,10 @@
 -- Each field reads back what it spells, and reads nothing else.
-use Rattle.std.proofs.Common.{◌≡◌, ℕ, true, List, ◌++◌, Option, Some, None, Ok, refl}
+use Rattle.std.proofs.Common.{◌≡◌, ℕ, true, List, ◌++◌, Option, Some, None, Ok, refl, sym, ap, ◌∙◌, append_assoc}
 use Rattle.fs_base.specs.declared.kind.Kind.{Kind}
 use Rattle.fs_base.specs.declared.kind.Kind.TheVariants as kinds
 use Rattle.byte_fields.specs.Forms.{tagged, Form, paired, nothing, sized, reads_arm}
-use Rattle.byte_fields.specs.Fields.{number_1, number_2, number_4, number_8, from_to, within, inode_id, mode, time, file_size, chunk, stripe, layout_of, layout, used_layout, version_arms, versioned, written_option, option_arms, optional, written_kind, kind_arms, kind, text, path_text}
-use Rattle.byte_fields.proofs.FormLaws.{IsForm, AreArms, nothing_is, followed_is, paired_is, shaped_is, tested_is, one_field_is, sized_is, arm_is, arm_back, choice_is}
+use Rattle.byte_fields.specs.Fields.{number_1, number_2, number_4, number_8, from_to, within, inode_id, mode, time, file_size, chunk, stripe, layout_of, layout, used_layout, version_arms, version, versioned, written_option, option_arms, optional, written_kind, kind_arms, kind, text, path_text}
+use Rattle.byte_fields.proofs.FormLaws.{IsForm, went, AreArms, nothing_is, followed_is, paired_is, shaped_is, tested_is, one_field_is, sized_is, arm_is, arm_back, choice_is}
 use Rattle.byte_fields.proofs.Numbers.{number_1_is, number_2_is, number_4_is, number_8_is}
 
 pub within_is : (form : Form ℕ) (low high : ℕ) → IsForm form → IsForm (within form low high)
@@ -46,11 +46,26 @@ pub used_layout_is : IsForm used_layout
 unfolding used_layout
 used_layout_is = followed_is layout _ layout_is (λ l. within_is number_2 1 l.stripe number_2_is)
 
-version_are : {X : Type 0} (form : Form X) → IsForm form → AreArms (tagged 1 form) (version_arms form)
-version_are form is = record { each = (arm_is (tagged 1 form) 1 form (λ x. x) is (λ x. refl), tt); back = λ x left rest h. arm_back 1 form (λ v. v) is x rest h }
+version_are : AreArms (tagged 1 nothing) version_arms
+version_are = record { each = (arm_is (tagged 1 nothing) 1 nothing (λ x. x) nothing_is (λ x. refl), tt); back = λ x left rest h. refl }
+
+pub version_is : IsForm version
+unfolding version
+version_is = choice_is number_1 (tagged 1 nothing) version_arms number_1_is version_are
+
+version_fits : version.fits tt ≡ true
+unfolding version number_1
+version_fits = refl
 
 pub versioned_is : {X : Type 0} (form : Form X) → IsForm form → IsForm (versioned form)
-versioned_is form is = choice_is number_1 (tagged 1 form) (version_arms form) number_1_is (version_are form is)
+versioned_is form is = record {
+  back = λ x rest h. rw (append_assoc, version_is.back tt (form.spelled x ++ rest) version_fits) (is.back x rest h);
+  exact = λ bytes rest x h.
+      let w = went (version.reads bytes) _ _ h in
+      let ev = version_is.exact bytes w.a.1 w.a.0 w.first in
+      let ef = is.exact w.a.1 rest x w.then in
+      (ef.0, ev.1 ∙ (ap (λ r. version.spelled tt ++ r) ef.1 ∙ sym (append_assoc (version.spelled tt) (form.spelled x) rest)));
+}
 
 option_back : {X : Type 0} (form : Form X) → IsForm form → (o : Option X) (left : ℕ) (rest : List ℕ) → (written_option form o).fits ≡ true → reads_arm (option_arms form) (written_option form o).tag left ((written_option form o).spelled ++ rest) ≡ Ok (o, rest)
 option_back {X} form is None left rest h = refl

@@ -1,6 +1,7 @@
 -- The fields of the project's values, each with its range.
-use Rattle.std.specs.Prelude.{ℕ, ◌-◌, ◌^◌, ◌&&◌, nat_le, nat_lt, is_ok, Bool, List, [], ◌∷◌, Option, Some, None}
+use Rattle.std.specs.Prelude.{ℕ, ◌-◌, ◌^◌, ◌&&◌, nat_le, nat_lt, is_ok, Bool, List, [], ◌∷◌, ◌++◌, Option, Some, None}
 use Rattle.std.specs.Int.{w8, w16, w32, w64, w128, to_le_bytes, from_le_bytes, to_be_bytes, from_be_bytes}
+use Rattle.fs_base.specs.Gives.{◌>>=◌}
 use Rattle.fs_base.specs.Paths.{path_of}
 use Rattle.fs_base.specs.declared.ids.ClientId.{ClientId}
 use Rattle.fs_base.specs.declared.layout.Layout.{Layout}
@@ -65,12 +66,20 @@ layout = layout_of chunk stripe (within number_2 0 255) inode_id
 unfoldable pub used_layout : Form (Layout × ℕ)
 used_layout = followed layout (λ l. within number_2 1 l.stripe)
 
--- a version byte of 1 before the value
-abbrev pub version_arms : {X : Type 0} → Form X → List (Arm X)
-version_arms form = arm 1 form (λ x. x) ∷ []
+-- the version byte 1
+abbrev pub version_arms : List (Arm (Unit {0}))
+version_arms = arm 1 nothing (λ x. x) ∷ []
 
+unfoldable pub version : Form (Unit {0})
+version = choice number_1 (tagged 1 nothing) version_arms
+
+-- the value behind a version byte
 abbrev pub versioned : {X : Type 0} → Form X → Form X
-versioned form = choice number_1 (tagged 1 form) (version_arms form)
+versioned form = record {
+  reads = λ bytes. version.reads bytes >>= λ (x, rest). form.reads rest;
+  spelled = λ x. version.spelled tt ++ form.spelled x;
+  fits = λ x. form.fits x;
+}
 
 -- 0, or 1 and the value
 abbrev pub written_option : {X : Type 0} → Form X → Option X → Tagged

@@ -1,18 +1,19 @@
 ghost use Rattle.std.specs.Prelude.{◌≡◌, ℕ, List, Result, IsTrue, length};
 ghost use Rattle.fs_base.specs.Gives.{Gives};
 ghost use Rattle.byte_fields.specs.Forms.{are_bytes, front, sized, placed};
-ghost use Rattle.byte_fields.specs.Fields.{number_1, number_2, number_4, number_8, within, inode_id, mode, time, file_size, chunk, stripe, layout, used_layout, kind, text, path_text, client};
+ghost use Rattle.byte_fields.specs.Fields.{version, number_1, number_2, number_4, number_8, within, inode_id, mode, time, file_size, chunk, stripe, layout, used_layout, kind, text, path_text, client};
 ghost use Rattle.byte_fields.specs.Outcome.{left_of, place_of};
 
 use crate::error::{FieldError, RowError};
-use fs_base::{ClientId, InodeId, Kind, Layout, Path, PathError};
+use fs_base::{ClientId, InodeId, Kind, Layout, Path, PathError, Text};
 use std::alloc::Global;
 use std::marker::Model;
 
 /// The bytes that are still to be read.
 ///
-/// A field that doesn't read leaves the cursor where the field begins.
-#[derive(Debug)]
+/// Each method reads one field, or a few, from the front. Where a field doesn't read the error says how many
+/// bytes are left where it begins, and nothing is said of the cursor from then on.
+#[derive(Debug, Drop)]
 pub struct Cursor<'a> {
     rest: &'a [u8],
 }
@@ -86,6 +87,18 @@ impl<'a> Cursor<'a> {
     {
         let b = self.take(8)?;
         Ok(u64::from_le_bytes([b[0], b[1], b[2], b[3], b[4], b[5], b[6], b[7]]))
+    }
+
+    /// The version byte, which is 1.
+    #[tactic(auto, unfolding(crate::specs::Fields::version))]
+    pub fn version(&mut self) -> Result<(), FieldError>
+        ensures { Gives left_of (λ u. (u, self.new)) result (version.reads self.old) }
+    {
+        let left = self.left();
+        match self.u8()? {
+            1 => Ok(()),
+            _ => Err(FieldError::Unread(left)),
+        }
     }
 
     /// A number of two bytes from `low` to `high`.
@@ -247,6 +260,14 @@ impl<'a> Cursor<'a> {
     {
         let count = self.u16()?;
         self.take(count as usize)
+    }
+
+    /// A text of its own.
+    pub fn owned_text(&mut self, alloc: Global) -> Result<Text, FieldError>
+        ensures { Gives left_of (λ text. (text, self.new)) result (text.reads self.old) }
+    {
+        let bytes = self.text()?;
+        Ok(Text::from_slice(alloc, bytes)?)
     }
 
     /// The bytes of a text that reads as a path.

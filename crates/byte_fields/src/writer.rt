@@ -1,5 +1,5 @@
 ghost use Rattle.std.specs.Prelude.{◌≡◌, [], ◌++◌, OnOk};
-ghost use Rattle.byte_fields.specs.Fields.{number_1, number_2, number_4, number_8, inode_id, layout, kind, text, client};
+ghost use Rattle.byte_fields.specs.Fields.{number_1, number_2, number_4, number_8, version, inode_id, mode, time, file_size, chunk, stripe, layout, used_layout, kind, text, path_text, client};
 
 use fs_base::{ClientId, InodeId, Kind, Layout, Memory};
 use std::alloc::Global;
@@ -74,21 +74,80 @@ impl Writer {
         self.bytes(&number.to_le_bytes())
     }
 
-    #[tactic(auto, unfolding(crate::specs::Fields::inode_id))]
-    pub fn inode_id(&mut self, id: InodeId) -> Result<(), Memory>
-        ensures { OnOk result (self.new ≡ self.old ++ inode_id.spelled id) }
+    /// The version byte, which is 1.
+    #[tactic(auto, unfolding(crate::specs::Fields::version))]
+    pub fn version(&mut self) -> Result<(), Memory>
+        ensures { OnOk result (self.new ≡ self.old ++ version.spelled tt) }
     {
-        self.u64(id.get())
+        self.u8(1)
     }
 
-    #[tactic(auto, unfolding(crate::specs::Fields::layout, crate::specs::Fields::chunk, crate::specs::Fields::stripe, crate::specs::Fields::inode_id))]
+    #[tactic(auto, unfolding(crate::specs::Fields::inode_id))]
+    pub fn inode_id(&mut self, value: InodeId) -> Result<(), Memory>
+        ensures { OnOk result (self.new ≡ self.old ++ inode_id.spelled value) }
+    {
+        self.u64(value.get())
+    }
+
+    #[tactic(auto, unfolding(crate::specs::Fields::mode))]
+    pub fn mode(&mut self, value: u16) -> Result<(), Memory>
+        ensures { OnOk result (self.new ≡ self.old ++ mode.spelled value) }
+    {
+        self.u16(value)
+    }
+
+    #[tactic(auto, unfolding(crate::specs::Fields::time))]
+    pub fn time(&mut self, value: u64) -> Result<(), Memory>
+        ensures { OnOk result (self.new ≡ self.old ++ time.spelled value) }
+    {
+        self.u64(value)
+    }
+
+    #[tactic(auto, unfolding(crate::specs::Fields::file_size))]
+    pub fn file_size(&mut self, value: u64) -> Result<(), Memory>
+        ensures { OnOk result (self.new ≡ self.old ++ file_size.spelled value) }
+    {
+        self.u64(value)
+    }
+
+    #[tactic(auto, unfolding(crate::specs::Fields::chunk))]
+    pub fn chunk(&mut self, value: u32) -> Result<(), Memory>
+        ensures { OnOk result (self.new ≡ self.old ++ chunk.spelled value) }
+    {
+        self.u32(value)
+    }
+
+    #[tactic(auto, unfolding(crate::specs::Fields::stripe))]
+    pub fn stripe(&mut self, value: u16) -> Result<(), Memory>
+        ensures { OnOk result (self.new ≡ self.old ++ stripe.spelled value) }
+    {
+        self.u16(value)
+    }
+
+    #[tactic(auto, unfolding(crate::specs::Fields::layout))]
     pub fn layout(&mut self, value: Layout) -> Result<(), Memory>
         ensures { OnOk result (self.new ≡ self.old ++ layout.spelled value) }
     {
-        self.u32(value.chunk)?;
-        self.u16(value.stripe)?;
+        self.chunk(value.chunk)?;
+        self.stripe(value.stripe)?;
         self.u16(value.start)?;
-        self.u64(value.mix)
+        self.mix(value.mix)
+    }
+
+    #[tactic(auto, unfolding(crate::specs::Fields::inode_id))]
+    fn mix(&mut self, value: u64) -> Result<(), Memory>
+        ensures { OnOk result (self.new ≡ self.old ++ inode_id.spelled value) }
+    {
+        self.u64(value)
+    }
+
+    /// A file's layout and how many places of it are in use.
+    #[tactic(auto, unfolding(crate::specs::Fields::used_layout))]
+    pub fn used_layout(&mut self, value: Layout, hint: u16) -> Result<(), Memory>
+        ensures { OnOk result (self.new ≡ self.old ++ used_layout.spelled (value, hint)) }
+    {
+        self.layout(value)?;
+        self.u16(hint)
     }
 
     #[tactic(auto, unfolding(crate::specs::Fields::kind))]
@@ -118,5 +177,12 @@ impl Writer {
         let count = (bytes.len() as u64).to_le_bytes();
         self.bytes(&count[..2])?;
         self.bytes(bytes)
+    }
+
+    #[tactic(auto, unfolding(crate::specs::Fields::path_text))]
+    pub fn path_text(&mut self, bytes: &[u8]) -> Result<(), Memory>
+        ensures { OnOk result (self.new ≡ self.old ++ path_text.spelled bytes.now) }
+    {
+        self.text(bytes)
     }
 }
