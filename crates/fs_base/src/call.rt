@@ -93,21 +93,36 @@ pub enum Call {
         layout: Option<DefaultLayout>,
     },
     /// Makes a symbolic link to a path (POSIX `symlink`).
-    Symlink { place: Place, target: Text },
+    Symlink {
+        place: Place,
+        target: Text,
+    },
     /// Sets attributes (POSIX `chmod`, `chown`, `utimensat`).
-    Setattr { place: Place, changes: Changes },
+    Setattr {
+        place: Place,
+        changes: Changes,
+    },
     /// A further entry for a file or link (POSIX `link`).
-    Link { from: Place, to: Place },
+    Link {
+        from: Place,
+        to: Place,
+    },
     /// Takes away a file's or link's entry (POSIX `unlink`).
     Unlink(Place),
     /// Removes an empty directory (POSIX `rmdir`).
     Rmdir(Place),
     /// Moves an entry (POSIX `rename`).
-    Rename { from: Place, to: Place },
+    Rename {
+        from: Place,
+        to: Place,
+    },
     /// Opens a file for writing.
     Open(Place),
     /// Makes a place of the layout usable.
-    Extend { session: Session, place: u16 },
+    Extend {
+        session: Session,
+        place: u16,
+    },
     /// Tells how far the client has written, and at which count of truncations.
     Report {
         session: Session,
@@ -119,7 +134,10 @@ pub enum Call {
     /// As fsync, and ends the session.
     Close(Session),
     /// Sets the length (POSIX `ftruncate`).
-    Truncate { session: Session, length: u64 },
+    Truncate {
+        session: Session,
+        length: u64,
+    },
     /// Takes away the node of a file without entries.
     Purge(InodeId),
     /// Forgets a purged file whose chunks are gone.
