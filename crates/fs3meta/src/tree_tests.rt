@@ -1,7 +1,8 @@
 //! The plain tree isn't called by the program, which is proved to answer as it does.
 
 use fs_base::{
-    Call, ClientId, Config, DefaultLayout, InodeId, Layout, Name, Path, Place, Reply, Request, Text,
+    Call, ClientId, Code, Config, DefaultLayout, InodeId, Kind, Layout, Name, Path, Place, Reply,
+    Request, Text,
 };
 use std::alloc::{AllocError, Global};
 use std::test::Fail;
@@ -10,19 +11,20 @@ use tree_model::{
     is_built,
 };
 
-/// Server, base and path; a mkdir has a word more, and the chunk and stripe where it gives them. Then the reply.
-const CALLS: &str = "0 0 /a mkdir = made 16
-1 16 b mkdir = made 17
-1 17 /b mkdir = made 33
-0 16 ./b/ = found 17 Dir
-0 16 /b = found 33 Dir
+/// Server, base and path; a mkdir has a word more, and the chunk and stripe where it gives them. Then the inode, with its
+/// kind where it was found, or the refusal.
+const CALLS: &str = "0 0 /a mkdir = 16
+1 16 b mkdir = 17
+1 17 /b mkdir = 33
+0 16 ./b/ = 17 Dir
+0 16 /b = 33 Dir
 0 7 b = NotFound
-0 7 /a = found 16 Dir
+0 7 /a = 16 Dir
 0 0 /a/b/c/d mkdir = NotFound
 0 0 /c mkdir 16 2 = BadLayout
 0 0 /c mkdir 0 1 = BadLayout
 0 0 c/.. mkdir 0 1 = BadPath
-0 0 /c mkdir 16 1 = made 32";
+0 0 /c mkdir 16 1 = 32";
 
 /// A node and its entry: id, directory, name, and a link's target.
 const NODES: &str = "16 0 a dir
@@ -45,7 +47,7 @@ const NODES: &str = "16 0 a dir
 10 0 l10 link l9
 11 0 l11 link l10";
 
-/// What is wanted, the base and the path; then what the walk comes to.
+/// What is wanted, the base and the path; then the node, the parent with or without a name, or why the walk stopped.
 const WALKS: &str = "follow 0 /abs = 16 Dir
 nofollow 0 /abs = 48 Link
 nofollow 0 /abs/ = 48 Link
@@ -61,8 +63,8 @@ nofollow 0 /bad = 128 Link
 parent 0 /abs = in 0 [97, 98, 115]
 parent 0 /abs/n = in 16 [110]
 parent 0 /a/f/n = NotDir
-parent 0 / = in 0
-parent 16 . = in 16
+parent 0 / = 0
+parent 16 . = 16
 follow 16 . = 16 Dir
 follow 0 /l10 = 16 Dir
 nofollow 0 /l10/f = 32 File
@@ -108,13 +110,56 @@ fn call_of(alloc: Global, base: &str, path: &str, words: &[&str]) -> Result<Call
     }
 }
 
+fn id_text(alloc: Global, id: InodeId) -> Result<String, AllocError> {
+    format!(in alloc; "{}", id.get())
+}
+
+fn kind_text(alloc: Global, id: InodeId, kind: Kind) -> Result<String, AllocError> {
+    format!(in alloc; "{} {kind:?}", id.get())
+}
+
+fn code_text(alloc: Global, code: Code) -> Result<String, AllocError> {
+    format!(in alloc; "{code:?}")
+}
+
 fn reply_text(alloc: Global, reply: &Reply) -> Result<String, AllocError> {
     match reply {
-        Reply::Made(id) => format!(in alloc; "made {}", id.get()),
-        Reply::Found(id, kind) => format!(in alloc; "found {} {kind:?}", id.get()),
-        Reply::Refused(code) => format!(in alloc; "{code:?}"),
-        _ => format!(in alloc; "another reply"),
+        Reply::Made(id) => id_text(alloc, *id),
+        Reply::Found(id, kind) => kind_text(alloc, *id, *kind),
+        Reply::Refused(code) => code_text(alloc, *code),
+        _ => String::from_str(alloc, "another reply"),
     }
+}
+
+fn request_of(alloc: Global, words: &[&str]) -> Result<Request, Fail> {
+    let [server, base, path, more @ ..] = words else {
+        return Err("no call")?;
+    };
+    Ok(Request {
+        server: server.parse::<u8>()?,
+        client: ClientId(1),
+        number: 1,
+        stamp: 5,
+        call: call_of(alloc, base, path, more)?,
+    })
+}
+
+fn answer(alloc: Global, tree: &mut Tree, request: &Request) -> Result<Reply, Fail> {
+    if request.server >= 16 || !is_built(&request.call) {
+        return Err("no call")?;
+    }
+    Ok(tree.apply(alloc, request)?)
+}
+
+fn reply_to(alloc: Global, tree: &mut Tree, words: &[&str]) -> Result<Reply, Fail> {
+    let request = request_of(alloc, words)?;
+    answer(alloc, tree, &request)
+}
+
+fn told_by(alloc: Global, tree: &mut Tree, words: &str) -> Result<String, Fail> {
+    let words: Vec<&str> = words.split(' ').collect(alloc)?;
+    let reply = reply_to(alloc, tree, words.as_slice())?;
+    Ok(reply_text(alloc, &reply)?)
 }
 
 #[test]
@@ -123,20 +168,8 @@ fn the_plain_tree_makes_and_finds(rt: HostRuntime) -> Result<(), Fail> {
     let mut tree = Tree::new(alloc, Config::single())?;
     for line in CALLS.split('\n') {
         let (words, told) = line.split_once(" = ").ok_or("no reply")?;
-        let words: Vec<&str> = words.split(' ').collect(alloc)?;
-        let [server, base, path, more @ ..] = words.as_slice() else {
-            return Err("no call")?;
-        };
-        let request = Request {
-            server: server.parse::<u8>()?,
-            client: ClientId(1),
-            number: 1,
-            stamp: 5,
-            call: call_of(alloc, base, path, more)?,
-        };
-        assert!(rt; request.server < 16 && is_built(&request.call));
-        let reply = tree.apply(alloc, &request)?;
-        assert_eq!(rt; reply_text(alloc, &reply)?.as_str(), told, "at {line}");
+        let text = told_by(alloc, &mut tree, words)?;
+        assert_eq!(rt; text.as_str(), told, "at {line}");
     }
     Ok(())
 }
@@ -210,13 +243,27 @@ fn end_of(word: &str) -> WalkEnd {
     }
 }
 
+fn parent_text(alloc: Global, id: InodeId, name: &Name) -> Result<String, AllocError> {
+    format!(in alloc; "in {} {:?}", id.get(), name.bytes())
+}
+
 fn walked_text(alloc: Global, walked: &Walked) -> Result<String, AllocError> {
     match walked {
-        Walked::At(id, kind) => format!(in alloc; "{} {kind:?}", id.get()),
-        Walked::AtParent(id, name) => format!(in alloc; "in {} {:?}", id.get(), name.bytes()),
-        Walked::NoName(id) => format!(in alloc; "in {}", id.get()),
-        Walked::Stopped(code) => format!(in alloc; "{code:?}"),
+        Walked::At(id, kind) => kind_text(alloc, *id, *kind),
+        Walked::AtParent(id, name) => parent_text(alloc, *id, name),
+        Walked::NoName(id) => id_text(alloc, *id),
+        Walked::Stopped(code) => code_text(alloc, *code),
     }
+}
+
+fn walked_by(alloc: Global, tree: &Tree, words: &str) -> Result<String, Fail> {
+    let words: Vec<&str> = words.split(' ').collect(alloc)?;
+    let [end, base, path] = words.as_slice() else {
+        return Err("no walk")?;
+    };
+    let path = Path::read(alloc, path.as_bytes())?;
+    let walked = tree.resolve(alloc, inode(base)?, &path, end_of(end))?;
+    Ok(walked_text(alloc, &walked)?)
 }
 
 #[test]
@@ -225,13 +272,8 @@ fn the_plain_tree_follows_links(rt: HostRuntime) -> Result<(), Fail> {
     let tree = planted(alloc, NODES)?;
     for line in WALKS.split('\n') {
         let (words, told) = line.split_once(" = ").ok_or("no end")?;
-        let words: Vec<&str> = words.split(' ').collect(alloc)?;
-        let [end, base, path] = words.as_slice() else {
-            return Err("no walk")?;
-        };
-        let path = Path::read(alloc, path.as_bytes())?;
-        let walked = tree.resolve(alloc, inode(base)?, &path, end_of(end))?;
-        assert_eq!(rt; walked_text(alloc, &walked)?.as_str(), told, "at {line}");
+        let text = walked_by(alloc, &tree, words)?;
+        assert_eq!(rt; text.as_str(), told, "at {line}");
     }
     Ok(())
 }
