@@ -8,6 +8,7 @@ use Rattle.key_schema.specs.declared.key.Key.TheVariants.{Inode, Dent, Alloc}
 use Rattle.key_schema.proofs.KeyLaws.{one_key_each}
 use Rattle.tree_model.specs.Calls.{Effect, id_of, settle}
 use Rattle.tree_model.specs.Tree.{Tree, next_at}
+use Rattle.tree_model.specs.declared.node.Node.{Node}
 use Rattle.tree_model.proofs.MapLaws.{texts, ids, names, decide, get-set_same, get-set_other, get-set_cases}
 use Rattle.fs3meta.specs.declared.decide.Child.{Child}
 use Rattle.fs3meta.specs.declared.decide.Decision.{Decision}
@@ -17,7 +18,7 @@ use Rattle.fs3meta.specs.declared.rows.Plain.TheVariants as plains
 use Rattle.fs3meta.specs.declared.rows.Rows.{Rows}
 use Rattle.fs3meta.specs.Rows.{inode_row, target_row, number_row}
 use Rattle.fs3meta.specs.Decide.{rows_with_child, rows_after, reply_of}
-use Rattle.fs3meta.specs.Holds.{Holds}
+use Rattle.fs3meta.specs.Holds.{IsDir, Holds}
 use Rattle.fs3meta.proofs.SameDecisions.{does, IsNext, CanBeDone, Decides}
 
 -- ---- a row at one key, after a row was put at another
@@ -49,12 +50,13 @@ alloc_not_dent server dir name e = absurd cc
 abbrev entry_of_key : Key → ℕ × List ℕ
 entry_of_key (Inode id) = (id, [])
 entry_of_key (Dent dir name) = (dir, name)
-entry_of_key (Alloc server) = (server, [])
+entry_of_key _ = (0, [])
 
 abbrev number_of_key : Key → ℕ
 number_of_key (Inode id) = id
 number_of_key (Dent dir name) = dir
 number_of_key (Alloc server) = server
+number_of_key _ = 0
 
 -- ---- the three puts of a child
 
@@ -122,6 +124,12 @@ module _ (rows : Rows) (T : Tree) (server : ℕ) (child : Child) (h : Holds rows
     | inr p ↦ rw (inode_other rows server child small c.dir id lt p.0) (h.inodes id lt ∙ sym (get-set_other ids T.nodes child.id (Some child.node) id p.0))
   ]
 
+  made_dirs : (id : ℕ) (node : Node) → get (insert T.nodes child.id child.node) id ≡ Some node → IsDir node.part
+  made_dirs id node is = elim (get-set_cases ids T.nodes child.id (Some child.node) id (Some node) is) [
+    | inl p ↦ let same : child.node ≡ node = (let e = p.1 in cc) in subst (λ (n : Node). IsDir n.part) same c.inside
+    | inr p ↦ h.dirs id node p.1
+  ]
+
   made_entries : (dir : ℕ) (name : List ℕ) → dir < 2 ^ 64 → target_row (rows_with_child rows server child) dir name ≡ get (insert T.entries (child.dir, child.name) child.id) (dir, name)
   made_entries dir name lt = elim (decide names (dir, name) (child.dir, child.name)) [
     | inl p ↦
@@ -154,7 +162,7 @@ module _ (rows : Rows) (T : Tree) (server : ℕ) (child : Child) (h : Holds rows
     entries = insert T.entries (child.dir, child.name) child.id;
     next = insert T.next server child.next;
   })
-  made_holds = record { inodes = made_inodes; entries = made_entries; numbers = made_numbers; targets = made_targets; limits = made_limits }
+  made_holds = record { inodes = made_inodes; dirs = made_dirs; entries = made_entries; numbers = made_numbers; targets = made_targets; limits = made_limits }
 
 -- ---- what follows a decision
 

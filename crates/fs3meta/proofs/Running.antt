@@ -1,5 +1,5 @@
 -- A run in progress: the rows are those of the tree so far, and the receipts are those so far.
-use Rattle.std.proofs.Common.{◌≡◌, ℕ, ◌+◌, ◌<◌, ◌≤◌, ◌^◌, List, [], ◌∷◌, ◌++◌, length, get_or, drop, Some, None, refl, sym, ap, ◌∙◌, arith, append_assoc, add-one, drop-cons, inl, inr}
+use Rattle.std.proofs.Common.{◌≡◌, ℕ, ◌+◌, ◌<◌, ◌≤◌, ◌^◌, List, [], ◌∷◌, ◌++◌, length, get_or, drop, Some, None, refl, sym, ap, ◌∙◌, arith, append_assoc, add-one, drop-cons, subst, inl, inr}
 use Rattle.std.specs.Ordering.{nat_cmp}
 use Rattle.std.specs.Cmp.Lexicographic.{slice_cmp}
 use Rattle.std.specs.FinMap.{get, empty, get-empty}
@@ -17,12 +17,13 @@ use Rattle.scenario.specs.declared.plan.Script.{Script}
 use Rattle.tree_model.specs.Calls.{apply, effect, settle}
 use Rattle.tree_model.specs.Maps.{dent_cmp}
 use Rattle.tree_model.specs.Tree.{Tree, root_of, new_tree, next_at}
-use Rattle.tree_model.proofs.MapLaws.{texts, ids, decide as compare, get-set_same, get-set_other}
+use Rattle.tree_model.specs.declared.node.Node.{Node}
+use Rattle.tree_model.proofs.MapLaws.{texts, ids, decide as compare, get-set_same, get-set_other, get-set_cases}
 use Rattle.fs3meta.specs.declared.rows.Plain.TheVariants as plains
 use Rattle.fs3meta.specs.declared.rows.Rows.{Rows}
 use Rattle.fs3meta.specs.Rows.{inode_row, target_row, number_row}
 use Rattle.fs3meta.specs.Decide.{decide, rows_after, reply_of}
-use Rattle.fs3meta.specs.Holds.{Holds, HasBase}
+use Rattle.fs3meta.specs.Holds.{IsDir, Holds, HasBase}
 use Rattle.fs3meta.specs.Opening.{opening_rows}
 use Rattle.fs3meta.specs.Run.{call_of, request_of, listed, receipt_of, receipts_from, receipts_of, version_after}
 use Rattle.fs3meta.proofs.SameDecisions.{decide_same}
@@ -47,6 +48,12 @@ module _ (C : Config) where
         (sym (get-set_other ids empty 0 (Some (root_of C)) id p.0 ∙ get-empty nat_cmp id))
   ]
 
+  opening_dirs : (id : ℕ) (node : Node) → get (new_tree C).nodes id ≡ Some node → IsDir node.part
+  opening_dirs id node is = elim (get-set_cases ids empty 0 (Some (root_of C)) id (Some node) is) [
+    | inl p ↦ let same : root_of C ≡ node = (let e = p.1 in cc) in subst (λ (n : Node). IsDir n.part) same tt
+    | inr p ↦ absurd (let none = get-empty {X = Node} nat_cmp id in let some = p.1 in cc)
+  ]
+
   opening_entries : (dir : ℕ) (name : List ℕ) → dir < 2 ^ 64 → target_row (opening_rows C) dir name ≡ get (new_tree C).entries (dir, name)
   opening_entries dir name small = rw (no_row (Dent dir name) small (λ e. absurd cc)) (sym (get-empty dent_cmp (dir, name)))
 
@@ -60,7 +67,7 @@ module _ (C : Config) where
   opening_limits server = rw (get-empty {X = ℕ} nat_cmp server) (omega arith)
 
   pub opening_holds : Holds (opening_rows C) (new_tree C)
-  opening_holds = record { inodes = opening_inodes; entries = opening_entries; numbers = opening_numbers; targets = no_target; limits = opening_limits }
+  opening_holds = record { inodes = opening_inodes; dirs = opening_dirs; entries = opening_entries; numbers = opening_numbers; targets = no_target; limits = opening_limits }
 
 -- ---- one step more
 

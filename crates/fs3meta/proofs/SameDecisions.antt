@@ -1,10 +1,10 @@
 -- What the rows of a tree say of a request is what the tree says.
-use Rattle.std.proofs.Common.{◌≡◌, ℕ, ◌+◌, ◌==◌, ◌||◌, ◌<◌, ◌^◌, List, [], ◌∷◌, Bool, true, false, cond, Option, Some, None, Ok, Err, refl, arith}
+use Rattle.std.proofs.Common.{◌≡◌, ℕ, ◌+◌, ◌==◌, ◌||◌, ◌<◌, ◌^◌, List, [], ◌∷◌, Bool, true, false, cond, Option, Some, None, Ok, Err, refl, sym, ◌∙◌, arith}
 use Rattle.std.specs.Prelude.{Result, unwrap_or}
 use Rattle.std.specs.FinMap.{get, insert}
 use Rattle.fs_base.specs.declared.call.Call.{Call}
 use Rattle.fs_base.specs.declared.call.Call.TheVariants as calls
-use Rattle.fs_base.specs.declared.call.DefaultLayout.{DefaultLayout}
+use Rattle.fs_base.specs.declared.layout.DefaultLayout.{DefaultLayout}
 use Rattle.fs_base.specs.declared.call.Request.{Request}
 use Rattle.fs_base.specs.declared.code.Code.{Code}
 use Rattle.fs_base.specs.declared.code.Code.TheVariants as codes
@@ -13,47 +13,77 @@ use Rattle.fs_base.specs.declared.config.Config.{Config}
 use Rattle.fs_base.specs.declared.path.Path.{Path}
 use Rattle.fs_base.specs.declared.reply.Reply.TheVariants.{Made}
 use Rattle.fs_base.specs.Paths.{path_of}
-use Rattle.tree_model.specs.Calls.{Effect, Leaves, Makes, id_of, is_layout, default_of, on_path, add_child, unless_there, make_at, refuses, with_child, effect_of, effect}
+use Rattle.tree_model.specs.Calls.{Effect, Leaves, Makes, id_of, is_layout, on_path, add_in, add_child, unless_there, make_at, refuses, with_child, effect_of, effect}
 use Rattle.tree_model.specs.Tree.{Tree, next_at, directory_of}
-use Rattle.tree_model.specs.Walk.{in_part, in_directory, ends_at, is_last_of_parent, at_entry, from_base, down, resolve}
+use Rattle.tree_model.specs.Walk.{Trip, Behind, stay, ends_at, is_last_of_parent, at_part, at_node, at_entry, down, walk, if_dir, from_base, resolve}
 use Rattle.tree_model.specs.declared.node.Node.{Node}
 use Rattle.tree_model.specs.declared.node.NodePart.{NodePart}
-use Rattle.tree_model.specs.declared.node.NodePart.TheVariants.{Dir}
+use Rattle.tree_model.specs.declared.node.NodePart.TheVariants.{Dir, File, Link}
 use Rattle.tree_model.specs.declared.walk.WalkEnd.{WalkEnd}
-use Rattle.tree_model.specs.declared.walk.WalkEnd.TheVariants.{NoFollow, Parent}
+use Rattle.tree_model.specs.declared.walk.WalkEnd.TheVariants.{Follow, NoFollow, Parent}
 use Rattle.tree_model.specs.declared.walk.Walked.{Walked}
 use Rattle.tree_model.specs.declared.walk.Walked.TheVariants.{At, AtParent, NoName, Stopped}
 use Rattle.fs3meta.specs.declared.decide.Child.{Child}
 use Rattle.fs3meta.specs.declared.decide.Decision.{Decision}
 use Rattle.fs3meta.specs.declared.decide.Decision.TheVariants.{Answer, Make}
 use Rattle.fs3meta.specs.declared.rows.Rows.{Rows}
-use Rattle.fs3meta.specs.Rows.{inode_row}
-use Rattle.fs3meta.specs.Decide.{rows_down, rows_resolve, refused, decide, decide_path, decide_child, decide_free, decide_make, decide_call}
-use Rattle.fs3meta.specs.Holds.{Holds, HasBase}
+use Rattle.fs3meta.specs.Rows.{inode_row, target_row}
+use Rattle.fs3meta.specs.Decide.{entered_part, entered, inside, at_target, rows_down, rows_resolve, refused, decide, decide_path, decide_in, decide_child, decide_free, decide_make, decide_call}
+use Rattle.fs3meta.specs.Holds.{IsDir, Holds, HasBase}
 
 -- ---- the walk
 
-entry_same : (rows : Rows) (T : Tree) (end : WalkEnd) (names : List (List ℕ)) (here : ℕ) (name : List ℕ) (o : Option ℕ) → Holds rows T → get T.entries (here, name) ≡ o
-    → ((id : ℕ) → id < 2 ^ 64 → rows_down rows end names id ≡ down T end names id)
-    → at_entry (rows_down rows end names) o ≡ at_entry (down T end names) o
-entry_same rows T end names here name None h is more = refl
-entry_same rows T end names here name (Some id) h is more = more id (h.targets here name id is)
+-- what lies behind a link plays no part where there is none
+module _ (rows : Rows) (T : Tree) (follow : Behind) (end : WalkEnd) (h : Holds rows T) where
+  either_same : (b : Bool) (w v : Walked) (t u : Trip) → w ≡ t.end → v ≡ u.end → cond b w v ≡ (cond b t u).end
+  either_same true w v t u p q = p
+  either_same false w v t u p q = q
 
-pub down_same : (rows : Rows) (T : Tree) (end : WalkEnd) (names : List (List ℕ)) (here : ℕ) → Holds rows T → here < 2 ^ 64 → rows_down rows end names here ≡ down T end names here
-unfolding rows_down down
-down_same rows T end [] here h small = refl
-down_same rows T end (name ∷ names) here h small =
-    rw (h.inodes here small, h.entries here name small, entry_same rows T end names here name (get T.entries (here, name)) h refl (λ id lt. down_same rows T end names id h lt)) refl
+  part_same : (here id : ℕ) (names : List (List ℕ)) (part : NodePart) → IsDir part → rows_down rows end names id ≡ (down follow T end names id).end
+      → inside (rows_down rows end names id) (entered_part part) ≡ (at_part follow end here id names (down follow T end names id) part).end
+  part_same here id names (Dir layout) dir more = more
+  part_same here id names (File length truncs layout hint) dir more = absurd dir
+  part_same here id names (Link target) dir more = absurd dir
 
-base_by : (rows : Rows) (T : Tree) (base : ℕ) (names : List (List ℕ)) (end : WalkEnd) (b : Bool) → Holds rows T → base < 2 ^ 36
-    → cond b (rows_down rows end names 0) (from_base (inode_row rows base) (rows_down rows end names base))
-    ≡ cond b (down T end names 0) (from_base (get T.nodes base) (down T end names base))
-base_by rows T base names end true h small = down_same rows T end names 0 h (omega arith)
-base_by rows T base names end false h small = rw (h.inodes base (omega arith), down_same rows T end names base h (omega arith)) refl
+  node_same : (here id : ℕ) (names : List (List ℕ)) (o : Option Node) → get T.nodes id ≡ o → rows_down rows end names id ≡ (down follow T end names id).end
+      → inside (rows_down rows end names id) (entered o) ≡ (at_node follow end here id names (down follow T end names id) o).end
+  node_same here id names None is more = refl
+  node_same here id names (Some node) is more = part_same here id names node.part (h.dirs id node is) more
+
+  entry_same : (here : ℕ) (name : List ℕ) (names : List (List ℕ)) (o : Option ℕ) → get T.entries (here, name) ≡ o
+      → ((id : ℕ) → id < 2 ^ 64 → rows_down rows end names id ≡ (down follow T end names id).end)
+      → at_target rows (rows_down rows end names) o ≡ (at_entry follow T end here names (down follow T end names) o).end
+  entry_same here name names None is more = refl
+  entry_same here name names (Some id) is more =
+      let small : id < 2 ^ 64 = h.targets here name id is in
+      rw (h.inodes id small) (node_same here id names (get T.nodes id) refl (more id small))
+
+  down_same : (names : List (List ℕ)) (here : ℕ) → here < 2 ^ 64 → rows_down rows end names here ≡ (down follow T end names here).end
+  unfolding rows_down
+  down_same [] here small = refl
+  down_same (name ∷ names) here small =
+      either_same (is_last_of_parent end names) _ _ (stay (AtParent here name)) _ refl
+      (rw (h.entries here name small) (entry_same here name names (get T.entries (here, name)) refl (λ id lt. down_same names id lt)))
+
+base_part : (part : NodePart) (w : Walked) (t : Trip) → w ≡ t.end → inside w (entered_part part) ≡ (if_dir part t).end
+base_part (Dir layout) w t same = same
+base_part (File length truncs layout hint) w t same = refl
+base_part (Link target) w t same = refl
+
+base_node : (o : Option Node) (w : Walked) (t : Trip) → w ≡ t.end → inside w (entered o) ≡ (from_base o t).end
+base_node None w t same = refl
+base_node (Some node) w t same = base_part node.part w t same
+
+base_by : (a b : Bool) (w v : Walked) (t u : Trip) → w ≡ t.end → v ≡ u.end → cond (a || b) w v ≡ (cond a t (cond b t u)).end
+base_by true b w v t u p q = p
+base_by false true w v t u p q = p
+base_by false false w v t u p q = q
 
 resolve_same : (rows : Rows) (T : Tree) (base : ℕ) (path : Path) (end : WalkEnd) → Holds rows T → base < 2 ^ 36 → rows_resolve rows base path end ≡ resolve T base path end
-unfolding rows_resolve resolve
-resolve_same rows T base path end h small = base_by rows T base path.names end (path.absolute || base == 0) h small
+unfolding rows_resolve
+resolve_same rows T base path end h small =
+    base_by path.absolute (base == 0) _ _ (walk 10 T end path.names 0) _ (down_same rows T _ end h path.names 0 (omega arith))
+    (rw (h.inodes base (omega arith)) (base_node (get T.nodes base) _ (walk 10 T end path.names base) (down_same rows T _ end h path.names base (omega arith))))
 
 -- ---- a walk ends in a directory whose id fits
 
@@ -64,41 +94,34 @@ IsSmall (NoName id) = Unit {0}
 IsSmall (Stopped code) = Unit {0}
 
 small_end : (end : WalkEnd) (here : ℕ) → IsSmall (ends_at end here)
+small_end Follow here = tt
 small_end NoFollow here = tt
 small_end Parent here = tt
 
-small_part : (part : NodePart) (walked : Walked) → IsSmall walked → IsSmall (in_part part walked)
-small_part (Dir layout) walked s = s
-
-small_directory : (o : Option Node) (walked : Walked) → IsSmall walked → IsSmall (in_directory o walked)
-small_directory None walked s = tt
-small_directory (Some node) walked s = small_part node.part walked s
+small_inside : (walked : Walked) (r : Result (Unit {0}) Code) → IsSmall walked → IsSmall (inside walked r)
+small_inside walked (Ok _) s = s
+small_inside walked (Err code) s = tt
 
 small_either : (b : Bool) (w v : Walked) → IsSmall w → IsSmall v → IsSmall (cond b w v)
 small_either true w v s r = s
 small_either false w v s r = r
 
-small_entry : (T : Tree) (here : ℕ) (name : List ℕ) (below : ℕ → Walked) (o : Option ℕ) → get T.entries (here, name) ≡ o
-    → ((id : ℕ) → get T.entries (here, name) ≡ Some id → IsSmall (below id)) → IsSmall (at_entry below o)
-small_entry T here name below None is more = tt
-small_entry T here name below (Some id) is more = more id is
+small_target : (rows : Rows) (below : ℕ → Walked) (o : Option ℕ) → ((id : ℕ) → o ≡ Some id → IsSmall (below id)) → IsSmall (at_target rows below o)
+small_target rows below None more = tt
+small_target rows below (Some id) more = small_inside (below id) (entered (inode_row rows id)) (more id refl)
 
-down_small : (rows : Rows) (T : Tree) (end : WalkEnd) (names : List (List ℕ)) (here : ℕ) → Holds rows T → here < 2 ^ 64 → IsSmall (down T end names here)
-unfolding down
+down_small : (rows : Rows) (T : Tree) (end : WalkEnd) (names : List (List ℕ)) (here : ℕ) → Holds rows T → here < 2 ^ 64 → IsSmall (rows_down rows end names here)
+unfolding rows_down
 down_small rows T end [] here h small = small_end end here
 down_small rows T end (name ∷ names) here h small =
-    small_directory (get T.nodes here) _ (small_either (is_last_of_parent end names) (AtParent here name) _ small
-    (small_entry T here name (down T end names) (get T.entries (here, name)) refl (λ id is. down_small rows T end names id h (h.targets here name id is))))
+    small_either (is_last_of_parent end names) (AtParent here name) _ small
+    (small_target rows (rows_down rows end names) (target_row rows here name) (λ id is. down_small rows T end names id h (h.targets here name id (sym (h.entries here name small) ∙ is))))
 
-small_base : (o : Option Node) (walked : Walked) → IsSmall walked → IsSmall (from_base o walked)
-small_base None walked s = tt
-small_base (Some node) walked s = small_part node.part walked s
-
-resolve_small : (rows : Rows) (T : Tree) (base : ℕ) (path : Path) (end : WalkEnd) → Holds rows T → base < 2 ^ 36 → IsSmall (resolve T base path end)
-unfolding resolve
+resolve_small : (rows : Rows) (T : Tree) (base : ℕ) (path : Path) (end : WalkEnd) → Holds rows T → base < 2 ^ 36 → IsSmall (rows_resolve rows base path end)
+unfolding rows_resolve
 resolve_small rows T base path end h small =
     small_either (path.absolute || base == 0) _ _ (down_small rows T end path.names 0 h (omega arith))
-    (small_base (get T.nodes base) _ (down_small rows T end path.names base h (omega arith)))
+    (small_inside _ (entered (inode_row rows base)) (down_small rows T end path.names base h (omega arith)))
 
 -- ---- the decision
 
@@ -118,6 +141,7 @@ pub record IsNext (T : Tree) (server : ℕ) (child : Child) : Type 0 where
   pub next : child.next ≡ next_at T.next server + 1
   pub room : next_at T.next server < 4294967295
   pub dir : child.dir < 2 ^ 64
+  pub inside : IsDir child.node.part
 
 abbrev pub CanBeDone : Tree → ℕ → Decision → Type 0
 CanBeDone T server (Answer reply) = Unit {0}
@@ -137,13 +161,19 @@ numbered_by : (rows : Rows) (T : Tree) (q : Request) (mode dir : ℕ) (name : Li
     (cond b (refuses (codes.AtLimit Inodes)) (Makes (with_child T q.server dir name (directory_of mode q.stamp layout)) (Made (id_of (next_at T.next q.server) q.server))))
     (cond b (refused (codes.AtLimit Inodes)) (Make (record { dir = dir; name = name; id = id_of (next_at T.next q.server) q.server; node = directory_of mode q.stamp layout; next = next_at T.next q.server + 1 })))
 numbered_by rows T q mode dir name layout true h small e = (refl, tt)
-numbered_by rows T q mode dir name layout false h small e = (refl, record { id = refl; next = refl; room = room T q.server rows h e; dir = small })
+numbered_by rows T q mode dir name layout false h small e = (refl, record { id = refl; next = refl; room = room T q.server rows h e; dir = small; inside = tt })
+
+in_same : (rows : Rows) (T : Tree) (q : Request) (mode dir : ℕ) (name : List ℕ) (given : Option DefaultLayout) (part : NodePart) → Holds rows T → dir < 2 ^ 64
+    → Decides T q.server (add_in T q mode given dir name part) (decide_in rows q mode given dir name part)
+in_same rows T q mode dir name given (Dir layout) h small =
+    rw (h.numbers q.server) (numbered_by rows T q mode dir name (unwrap_or given layout) (next_at T.next q.server == 4294967295) h small refl)
+in_same rows T q mode dir name given (File length truncs layout hint) h small = (refl, tt)
+in_same rows T q mode dir name given (Link target) h small = (refl, tt)
 
 child_same : (rows : Rows) (T : Tree) (q : Request) (mode dir : ℕ) (name : List ℕ) (given : Option DefaultLayout) (o : Option Node) → Holds rows T → dir < 2 ^ 64
     → Decides T q.server (add_child T q mode given dir name o) (decide_child rows q mode given dir name o)
 child_same rows T q mode dir name given None h small = (refl, tt)
-child_same rows T q mode dir name given (Some parent) h small =
-    rw (h.numbers q.server) (numbered_by rows T q mode dir name (unwrap_or given (default_of parent.part)) (next_at T.next q.server == 4294967295) h small refl)
+child_same rows T q mode dir name given (Some parent) h small = in_same rows T q mode dir name given parent.part h small
 
 free_same : (T : Tree) (server : ℕ) (o : Option ℕ) (e : Effect) (d : Decision) → Decides T server e d → Decides T server (unless_there o e) (decide_free o d)
 free_same T server None e d same = same
@@ -173,8 +203,9 @@ call_same C rows T q (calls.Lookup place) h based =
 call_same C rows T q (calls.Mkdir place mode layout) h based =
     path_same T q.server (path_of place.text) _ _ (λ path.
     layout_same T q.server (is_layout C layout) _ _
-    (rw (resolve_same rows T place.base path Parent h based)
-    (make_same rows T q mode layout (resolve T place.base path Parent) h (resolve_small rows T place.base path Parent h based))))
+    (rw (← resolve_same rows T place.base path Parent h based)
+    (make_same rows T q mode layout (rows_resolve rows place.base path Parent) h (resolve_small rows T place.base path Parent h based))))
+call_same C rows T q _ h based = (refl, tt)
 
 pub decide_same : (C : Config) (rows : Rows) (T : Tree) (q : Request) → Holds rows T → HasBase q.call → Decides T q.server (effect C T q) (decide C rows q)
 decide_same C rows T q h based = call_same C rows T q q.call h based

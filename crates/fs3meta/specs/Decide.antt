@@ -3,7 +3,7 @@ use Rattle.std.specs.Prelude.{ℕ, ◌+◌, ◌==◌, ◌||◌, if◌then◌else
 use Rattle.std.specs.FinMap.{insert}
 use Rattle.fs_base.specs.declared.call.Call.{Call}
 use Rattle.fs_base.specs.declared.call.Call.TheVariants as calls
-use Rattle.fs_base.specs.declared.call.DefaultLayout.{DefaultLayout}
+use Rattle.fs_base.specs.declared.layout.DefaultLayout.{DefaultLayout}
 use Rattle.fs_base.specs.declared.call.Place.{Place}
 use Rattle.fs_base.specs.declared.call.Request.{Request}
 use Rattle.fs_base.specs.declared.code.Code.{Code}
@@ -12,14 +12,16 @@ use Rattle.fs_base.specs.declared.code.Limit.TheVariants.{Inodes}
 use Rattle.fs_base.specs.declared.config.Config.{Config}
 use Rattle.fs_base.specs.declared.path.Path.{Path}
 use Rattle.fs_base.specs.declared.reply.Reply.{Reply}
-use Rattle.fs_base.specs.declared.reply.Reply.TheVariants.{Made, Refused}
+use Rattle.fs_base.specs.declared.reply.Reply.TheVariants.{Made, Done, Refused}
 use Rattle.fs_base.specs.Paths.{path_of}
 use Rattle.key_schema.specs.Keys.{spelled_key}
 use Rattle.key_schema.specs.declared.key.Key.TheVariants as keys
-use Rattle.tree_model.specs.Calls.{id_of, found_of, is_layout, default_of}
+use Rattle.tree_model.specs.Calls.{id_of, found_of, is_layout}
 use Rattle.tree_model.specs.Tree.{directory_of}
-use Rattle.tree_model.specs.Walk.{in_directory, ends_at, is_last_of_parent, at_entry, from_base}
+use Rattle.tree_model.specs.Walk.{ends_at, is_last_of_parent}
 use Rattle.tree_model.specs.declared.node.Node.{Node}
+use Rattle.tree_model.specs.declared.node.NodePart.{NodePart}
+use Rattle.tree_model.specs.declared.node.NodePart.TheVariants.{Dir, File, Link}
 use Rattle.tree_model.specs.declared.walk.WalkEnd.{WalkEnd}
 use Rattle.tree_model.specs.declared.walk.WalkEnd.TheVariants.{NoFollow, Parent}
 use Rattle.tree_model.specs.declared.walk.Walked.{Walked}
@@ -31,17 +33,37 @@ use Rattle.fs3meta.specs.declared.rows.Plain.TheVariants as plains
 use Rattle.fs3meta.specs.declared.rows.Rows.{Rows}
 use Rattle.fs3meta.specs.Rows.{inode_row, target_row, number_row}
 
+abbrev pub entered_part : NodePart → Result (Unit {0}) Code
+entered_part (Dir layout) = Ok tt
+entered_part (File length truncs layout hint) = Err codes.NotDir
+entered_part (Link target) = Err codes.NotDir
+
+-- a directory is entered; the rows hold no other inodes
+abbrev pub entered : Option Node → Result (Unit {0}) Code
+entered None = Err codes.NotFound
+entered (Some node) = entered_part node.part
+
+-- on behind a directory that is entered
+abbrev pub inside : Walked → Result (Unit {0}) Code → Walked
+inside walked (Ok _) = walked
+inside walked (Err code) = Stopped code
+
+-- on from an entry's target
+abbrev pub at_target : Rows → (ℕ → Walked) → Option ℕ → Walked
+at_target rows below None = Stopped codes.NotFound
+at_target rows below (Some id) = inside (below id) (entered (inode_row rows id))
+
+-- down one entry for each name
 unfoldable pub rows_down : Rows → WalkEnd → List (List ℕ) → ℕ → Walked
 rows_down rows end [] here = ends_at end here
 rows_down rows end (name ∷ names) here =
-    in_directory (inode_row rows here)
-    (if is_last_of_parent end names then AtParent here name else at_entry (rows_down rows end names) (target_row rows here name))
+    if is_last_of_parent end names then AtParent here name else at_target rows (rows_down rows end names) (target_row rows here name)
 
 unfoldable pub rows_resolve : Rows → ℕ → Path → WalkEnd → Walked
 rows_resolve rows base path end =
     if path.absolute || base == 0
     then rows_down rows end path.names 0
-    else from_base (inode_row rows base) (rows_down rows end path.names base)
+    else inside (rows_down rows end path.names base) (entered (inode_row rows base))
 
 abbrev pub refused : Code → Decision
 refused code = Answer (Refused code)
@@ -53,11 +75,16 @@ decide_path (Ok path) decision = decision path
 abbrev pub decide_number : ℕ → Child → Decision
 decide_number number child = if number == 4294967295 then refused (codes.AtLimit Inodes) else Make child
 
+abbrev pub decide_in : Rows → Request → ℕ → Option DefaultLayout → ℕ → List ℕ → NodePart → Decision
+decide_in rows q mode given dir name (Dir layout) =
+    let number = number_row rows q.server in
+    decide_number number (record { dir = dir; name = name; id = id_of number q.server; node = directory_of mode q.stamp (unwrap_or given layout); next = number + 1 })
+decide_in rows q mode given dir name (File length truncs layout hint) = refused codes.NotDir
+decide_in rows q mode given dir name (Link target) = refused codes.NotDir
+
 abbrev pub decide_child : Rows → Request → ℕ → Option DefaultLayout → ℕ → List ℕ → Option Node → Decision
 decide_child rows q mode given dir name None = refused codes.NotDir
-decide_child rows q mode given dir name (Some parent) =
-    let number = number_row rows q.server in
-    decide_number number (record { dir = dir; name = name; id = id_of number q.server; node = directory_of mode q.stamp (unwrap_or given (default_of parent.part)); next = number + 1 })
+decide_child rows q mode given dir name (Some parent) = decide_in rows q mode given dir name parent.part
 
 abbrev pub decide_free : Option ℕ → Decision → Decision
 decide_free None decision = decision
@@ -77,9 +104,11 @@ abbrev pub decide_mkdir : Config → Rows → Request → Place → ℕ → Opti
 decide_mkdir C rows q place mode given = decide_path (path_of place.text) (λ path.
     if is_layout C given then decide_make rows q mode given (rows_resolve rows place.base path Parent) else refused codes.BadLayout)
 
+-- the last line speaks of no call that is built
 abbrev pub decide_call : Config → Rows → Request → Call → Decision
 decide_call C rows q (calls.Lookup place) = decide_lookup rows place
 decide_call C rows q (calls.Mkdir place mode layout) = decide_mkdir C rows q place mode layout
+decide_call C rows q _ = Answer Done
 
 abbrev pub decide : Config → Rows → Request → Decision
 decide C rows q = decide_call C rows q q.call

@@ -29,14 +29,14 @@ stamp_of (ops.Lookup stamp place) = stamp
 abbrev pub request_of : ClientId → ℕ → Op → Request
 request_of client op step = record { server = 0; client = client; number = op + 1; stamp = stamp_of step; call = call_of step }
 
+-- of the calls that are built
 abbrev pub is_update : Call → Bool
-is_update (calls.Lookup place) = false
 is_update (calls.Mkdir place mode layout) = true
+is_update _ = false
 
 abbrev pub is_refusal : Reply → Bool
-is_refusal (replies.Made id) = false
-is_refusal (replies.Found id kind) = false
 is_refusal (replies.Refused code) = true
+is_refusal _ = false
 
 -- an update that isn't refused is committed
 abbrev pub commits : Call → Reply → Bool

@@ -1,13 +1,15 @@
-ghost use Rattle.std.specs.Prelude.{◌≡◌, ◌<◌, IfOk};
-ghost use Rattle.fs3meta.specs.Decide.{rows_down, rows_resolve, refused, decide, decide_lookup, decide_child, decide_make, decide_mkdir};
+ghost use Rattle.std.specs.Prelude.{◌≡◌, ◌<◌, IsTrue, IfOk};
+ghost use Rattle.fs3meta.specs.Decide.{entered, rows_down, rows_resolve, refused, decide, decide_lookup, decide_child, decide_make, decide_mkdir};
 ghost use Rattle.fs3meta.specs.Rows.{inode_row};
+ghost use Rattle.tree_model.specs.Calls.{is_built};
 
 use crate::rows::Rows;
 use fs_base::{
-    Call, Code, Config, DefaultLayout, InodeId, Limit, Memory, Name, Path, Place, Reply, Request,
+    Call, Code, Config, DefaultLayout, InodeId, Items, Limit, Memory, Name, Path, Place, Reply,
+    Request,
 };
 use std::alloc::Global;
-use tree_model::{Node, NodePart, WalkEnd, Walked, is_layout};
+use tree_model::{Names, Node, NodePart, WalkEnd, Walked, is_layout};
 
 /// A new directory under a name, and the number that its server gives after it.
 #[derive(Debug, Drop)]
@@ -32,28 +34,44 @@ fn refused(code: Code) -> Decision
     Decision::Answer(Reply::Refused(code))
 }
 
+/// Whether a directory stands at an inode, or why a walk stops there. The rows hold directories alone.
+fn enter(alloc: Global, rows: &Rows, id: InodeId) -> Result<Result<(), Code>, Memory>
+    ensures { IfOk result (λ outcome. outcome ≡ entered (inode_row rows.now id)) }
+{
+    let Some(node) = rows.inode(alloc, id)? else {
+        return Ok(Err(Code::NotFound));
+    };
+    match &node.part {
+        NodePart::Dir { .. } => Ok(Ok(())),
+        NodePart::File { .. } => Ok(Err(Code::NotDir)),
+        NodePart::Link { .. } => Ok(Err(Code::NotDir)),
+    }
+}
+
 /// Down one entry for each name, by keys.
 #[tactic(auto, unfolding(crate::specs::Decide::rows_down))]
 fn down(
     alloc: Global,
     rows: &Rows,
     end: WalkEnd,
-    names: &[Name],
+    names: &Items<Name>,
     start: InodeId,
 ) -> Result<Walked, Memory>
     ensures { IfOk result (λ walked. walked ≡ rows_down rows.now end names.now start) }
 {
+    let mut rest = Names::new(alloc);
+    rest.push_all(alloc, names)?;
     let mut here = start;
-    for (i, name) in names.iter().enumerate() {
-        if rows.inode(alloc, here)?.is_none() {
-            return Ok(Walked::Stopped(Code::NotDir));
+    while let Some(name) = rest.pop() {
+        if end.is_last_of_parent(&rest) {
+            return Ok(Walked::AtParent(here, name));
         }
-        if end.is_before_last(&names[i + 1..]) {
-            return Ok(Walked::AtParent(here, name.try_clone(alloc)?));
-        }
-        let Some(id) = rows.target(alloc, here, name)? else {
+        let Some(id) = rows.target(alloc, here, &name)? else {
             return Ok(Walked::Stopped(Code::NotFound));
         };
+        if let Err(code) = enter(alloc, rows, id)? {
+            return Ok(Walked::Stopped(code));
+        }
         here = id;
     }
     Ok(end.at(here))
@@ -70,14 +88,13 @@ fn resolve(
 ) -> Result<Walked, Memory>
     ensures { IfOk result (λ walked. walked ≡ rows_resolve rows.now base path.now end) }
 {
-    let names = path.names.as_slice();
     if path.absolute || base.get() == 0 {
-        return down(alloc, rows, end, names, InodeId::root());
+        return down(alloc, rows, end, &path.names, InodeId::root());
     }
-    if rows.inode(alloc, base)?.is_none() {
-        return Ok(Walked::Stopped(Code::NotFound));
+    if let Err(code) = enter(alloc, rows, base)? {
+        return Ok(Walked::Stopped(code));
     }
-    down(alloc, rows, end, names, base)
+    down(alloc, rows, end, &path.names, base)
 }
 
 fn decide_lookup(alloc: Global, rows: &Rows, place: &Place) -> Result<Decision, Memory>
@@ -109,12 +126,14 @@ fn decide_child(
     let Some(parent) = rows.inode(alloc, dir)? else {
         return Ok(refused(Code::NotDir));
     };
-    let NodePart::Dir { layout } = parent.part;
+    let NodePart::Dir { layout } = &parent.part else {
+        return Ok(refused(Code::NotDir));
+    };
     let number = rows.number(alloc, request.server)?;
     if number == u32::MAX {
         return Ok(refused(Code::AtLimit(Limit::Inodes)));
     }
-    let node = Node::directory(mode, request.stamp, given.unwrap_or(layout));
+    let node = Node::directory(mode, request.stamp, given.unwrap_or(*layout));
     Ok(Decision::Make(Child {
         dir,
         name,
@@ -178,7 +197,8 @@ pub fn decide(
     rows: &Rows,
     request: &Request,
 ) -> Result<Decision, Memory>
-    requires { request.now.server < 16 }
+    requires server { request.now.server < 16 }
+    requires built { IsTrue (is_built request.now.call) }
     ensures { IfOk result (λ decision. decision ≡ decide config.now rows.now request.now) }
 {
     match &request.call {
@@ -188,5 +208,6 @@ pub fn decide(
             mode,
             layout,
         } => decide_mkdir(alloc, config, rows, request, place, *mode, *layout),
+        _ => unreachable!(),
     }
 }

@@ -12,7 +12,7 @@ use std::marker::Model;
 use tree_model::Node;
 
 /// What stands at a key.
-#[derive(Clone, Copy, Debug)]
+#[derive(Debug, Drop)]
 pub enum Plain {
     Inode(Node),
     Target(InodeId),
@@ -20,11 +20,11 @@ pub enum Plain {
 }
 
 impl Plain {
-    fn as_inode(&self) -> Option<Node>
-        ensures { result ≡ as_inode self.now }
+    fn as_inode(&self) -> Option<&Node>
+        ensures { option_copied result ≡ as_inode self.now }
     {
         match self {
-            Plain::Inode(node) => Some(*node),
+            Plain::Inode(node) => Some(node),
             Plain::Target(_) => None,
             Plain::Next(_) => None,
         }
@@ -112,8 +112,8 @@ impl Rows {
     }
 
     /// The inode with an id.
-    pub fn inode(&self, alloc: Global, id: InodeId) -> Result<Option<Node>, Memory>
-        ensures { IfOk result (λ o. o ≡ inode_row self.now id) }
+    pub fn inode(&self, alloc: Global, id: InodeId) -> Result<Option<&Node>, Memory>
+        ensures { IfOk result (λ o. option_copied o ≡ inode_row self.now id) }
     {
         match self.read(alloc, &Key::Inode(id))? {
             Some(plain) => Ok(plain.as_inode()),

@@ -1,7 +1,8 @@
-ghost use Rattle.std.specs.Prelude.{◌≡◌, ◌+◌, ◌<◌, ◌≤◌, length, count_by, IfOk, OnOk};
+ghost use Rattle.std.specs.Prelude.{◌≡◌, ◌+◌, ◌<◌, ◌≤◌, length, count_by, IsTrue, IfOk, OnOk};
 ghost use Rattle.fs3meta.specs.Decide.{decide, rows_after, reply_of};
 ghost use Rattle.fs3meta.specs.Holds.{HasBase};
 ghost use Rattle.fs3meta.specs.Opening.{opening_rows};
+ghost use Rattle.tree_model.specs.Calls.{is_built};
 ghost use Rattle.fs3meta.specs.Run.{call_of, stamp_of, request_of, commits, receipt_of, receipts_of, summary_of, record_of};
 
 use crate::rows::{Plain, Rows};
@@ -83,7 +84,7 @@ fn take_step(
         call: call_of(alloc, step)?,
     };
     let reply = serve(alloc, &config, rows, &request)?;
-    let committed = commits(&request.call, reply);
+    let committed = commits(&request.call, &reply);
     let version = if committed { version + 1 } else { version };
     Ok(Receipt {
         op,
@@ -108,6 +109,7 @@ fn stamp_of(step: &Op) -> u64
 
 fn call_of(alloc: Global, step: &Op) -> Result<Call, Memory>
     ensures call { IfOk result (λ call. call ≡ call_of step.now) }
+    ensures built { IsTrue (is_built (call_of step.now)) }
     ensures base { IfOk result (λ _. HasBase (call_of step.now)) }
 {
     match step {
@@ -132,8 +134,8 @@ fn call_of(alloc: Global, step: &Op) -> Result<Call, Memory>
 }
 
 /// An update that isn't refused is committed.
-fn commits(call: &Call, reply: Reply) -> bool
-    ensures { result ≡ commits call.now reply }
+fn commits(call: &Call, reply: &Reply) -> bool
+    ensures { result ≡ commits call.now reply.now }
 {
     if matches!(reply, Reply::Refused(_)) {
         return false;

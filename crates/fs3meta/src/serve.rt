@@ -1,4 +1,5 @@
-ghost use Rattle.std.specs.Prelude.{◌≡◌, ◌<◌, IfOk, OnOk};
+ghost use Rattle.std.specs.Prelude.{◌≡◌, ◌<◌, IsTrue, IfOk, OnOk};
+ghost use Rattle.tree_model.specs.Calls.{is_built};
 ghost use Rattle.fs3meta.specs.Decide.{decide, rows_after, rows_with_child, reply_of};
 
 use crate::decide::{Child, Decision, decide};
@@ -14,7 +15,8 @@ pub fn serve(
     rows: &mut Rows,
     request: &Request,
 ) -> Result<Reply, Memory>
-    requires { request.now.server < 16 }
+    requires server { request.now.server < 16 }
+    requires built { IsTrue (is_built request.now.call) }
     ensures rows { OnOk result (rows.new ≡ rows_after rows.old request.now.server (decide config.now rows.old request.now)) }
     ensures reply { IfOk result (λ reply. reply ≡ reply_of (decide config.now rows.old request.now)) }
 {

@@ -1,14 +1,10 @@
 //! Runs of the program over memory: what is written, byte for byte, and the status.
 
 use crate::top::{Status, plain_main};
-use fs_base::{
-    Call, ClientId, Code, Config, DefaultLayout, InodeId, Kind, Place, Reply, Request, Text,
-};
 use fs_io::{MemSink, MemSource};
 use std::alloc::{AllocError, Global};
 use std::process::Abort;
 use std::test::Fail;
-use tree_model::Tree;
 
 const HEADER: &str = "fs3 1 servers=1 nodes=1 chains=1 chunk=1048576 stripe=1\n";
 
@@ -348,55 +344,6 @@ fn sources_and_sinks_that_fail(rt: HostRuntime) -> Result<(), Fail> {
             whole.as_slice().get(..written),
             "room for {room}"
         );
-    }
-    Ok(())
-}
-
-/// The tree isn't called by the program, which is proved to answer as it does.
-#[test]
-fn the_plain_tree_makes_and_finds(rt: HostRuntime) -> Result<(), Fail> {
-    let alloc = rt.alloc();
-    let mut tree = Tree::new(alloc, Config::single())?;
-    let made = |id: u64| InodeId::read(id).map(Reply::Made);
-    let found = |id: u64| InodeId::read(id).map(|id| Reply::Found(id, Kind::Dir));
-    let refused = |code: Code| Some(Reply::Refused(code));
-    let layout = |chunk: u32, stripe: u16| Some(DefaultLayout { chunk, stripe });
-    // The server, the base, the path, the layout that a mkdir gives (none for a lookup), the reply.
-    for (server, base, path, given, reply) in [
-        (0, 0, "/a", Some(None), made(16)),
-        (1, 16, "b", Some(None), made(17)),
-        (1, 17, "/b", Some(None), made(33)),
-        (0, 16, "./b/", None, found(17)),
-        (0, 16, "/b", None, found(33)),
-        (0, 7, "b", None, refused(Code::NotFound)),
-        (0, 7, "/a", None, found(16)),
-        (0, 0, "/a/b/c/d", Some(None), refused(Code::NotFound)),
-        (0, 0, "/c", Some(layout(16, 2)), refused(Code::BadLayout)),
-        (0, 0, "/c", Some(layout(0, 1)), refused(Code::BadLayout)),
-        (0, 0, "c/..", Some(layout(0, 1)), refused(Code::BadPath)),
-        (0, 0, "/c", Some(layout(16, 1)), made(32)),
-    ] {
-        assert!(rt; server < 16);
-        let place = Place {
-            base: InodeId::read(base).ok_or("no inode")?,
-            text: Text::from_slice(alloc, path.as_bytes())?,
-        };
-        let call = match given {
-            None => Call::Lookup(place),
-            Some(layout) => Call::Mkdir {
-                place,
-                mode: 0o755,
-                layout,
-            },
-        };
-        let request = Request {
-            server,
-            client: ClientId(1),
-            number: 1,
-            stamp: 5,
-            call,
-        };
-        assert_eq!(rt; Some(tree.apply(alloc, &request)?), reply, "at {path}");
     }
     Ok(())
 }

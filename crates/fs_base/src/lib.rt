@@ -2,6 +2,7 @@
 #![tactic(auto)]
 
 mod call;
+mod call_copy;
 mod code;
 mod config;
 mod ids;
@@ -12,6 +13,7 @@ mod memory;
 mod name;
 mod path;
 mod reply;
+mod reply_copy;
 mod row;
 
 pub use call::{Call, Changes, Place, Request, Session};

@@ -1,5 +1,7 @@
 //! The text of a record with each call, each reply and each refusal.
 
+ghost use Rattle.std.specs.Prelude.{◌<◌, ◌^◌};
+
 use super::*;
 use fs_base::{
     Attributes, Call, Changes, Code, Config, DataRun, DeletionPhase, DirEntry, DoomedInode,
@@ -158,29 +160,33 @@ fn changes(alloc: Global) -> [Call; 9] {
 }
 
 fn contents(alloc: Global) -> [Call; 11] {
-    let session = session();
-    let inode = InodeId::root();
     [
-        Call::Extend { session, place: 0 },
+        Call::Extend {
+            session: session(),
+            place: 0,
+        },
         Call::Report {
-            session,
+            session: session(),
             end: 0,
             truncs: 0,
         },
-        Call::Fsync(session),
-        Call::Close(session),
-        Call::Truncate { session, length: 0 },
-        Call::Purge(inode),
-        Call::Reap(inode),
+        Call::Fsync(session()),
+        Call::Close(session()),
+        Call::Truncate {
+            session: session(),
+            length: 0,
+        },
+        Call::Purge(InodeId::root()),
+        Call::Reap(InodeId::root()),
         Call::Prune(Items::new(alloc)),
         Call::Write {
-            session,
+            session: session(),
             offset: 0,
             len: 1,
             fill: 0,
         },
         Call::Read {
-            inode,
+            inode: InodeId::root(),
             offset: 0,
             len: 1,
         },
@@ -250,66 +256,75 @@ fn file() -> Reply {
     })
 }
 
-fn entries(alloc: Global, list: [(&[u8], InodeId, Kind); 2]) -> Result<Reply, Memory> {
+fn entry(alloc: Global, name: &[u8], id: u64, kind: Kind) -> Result<DirEntry, Memory>
+    requires { id < 2 ^ 36 }
+{
+    Ok(DirEntry {
+        name: Text::from_slice(alloc, name)?,
+        inode: InodeId::new(id),
+        kind,
+    })
+}
+
+fn names(alloc: Global, first: DirEntry, second: DirEntry) -> Result<Reply, Memory> {
     let mut entries = Items::new(alloc);
-    for (name, id, kind) in list {
-        entries.push(DirEntry {
-            name: Text::from_slice(alloc, name)?,
-            inode: id,
-            kind,
-        })?;
-    }
+    entries.push(first)?;
+    entries.push(second)?;
     Ok(Reply::Names(entries))
 }
 
-fn lists(alloc: Global) -> Result<[Reply; 9], Memory> {
-    let dir = InodeId::new(16);
-    let other = InodeId::new(17);
-    let doomed = [
-        DoomedInode {
-            inode: dir,
-            phase: DeletionPhase::Waiting,
-        },
-        DoomedInode {
-            inode: other,
-            phase: DeletionPhase::Purged,
-        },
-    ];
-    let runs = [
-        DataRun {
-            offset: 0,
-            len: 10,
-            fill: 7,
-        },
-        DataRun {
-            offset: 10,
-            len: 22,
-            fill: 0,
-        },
-    ];
-    Ok([
-        Reply::Names(Items::new(alloc)),
-        entries(
-            alloc,
-            [
-                (b"f".as_slice(), dir, Kind::File),
-                (b"g".as_slice(), dir, Kind::File),
-            ],
-        )?,
-        entries(
-            alloc,
-            [
-                (b"".as_slice(), dir, Kind::Link),
-                (b"\x00\xff/\n\x9a".as_slice(), other, Kind::Dir),
-            ],
-        )?,
-        Reply::Target(Text::from_slice(alloc, b"l1")?),
-        Reply::Target(Text::new(alloc)),
-        Reply::Doomed(Items::new(alloc)),
-        Reply::Doomed(Items::from_slice(alloc, doomed.as_slice())?),
-        Reply::Data(Items::new(alloc)),
-        Reply::Data(Items::from_slice(alloc, runs.as_slice())?),
-    ])
+fn files(alloc: Global) -> Result<Reply, Memory> {
+    let first = entry(alloc, b"f", 16, Kind::File)?;
+    let second = entry(alloc, b"g", 16, Kind::File)?;
+    names(alloc, first, second)
+}
+
+fn odd_names(alloc: Global) -> Result<Reply, Memory> {
+    let first = entry(alloc, b"", 16, Kind::Link)?;
+    let second = entry(alloc, b"\x00\xff/\n\x9a", 17, Kind::Dir)?;
+    names(alloc, first, second)
+}
+
+fn doomed(alloc: Global) -> Result<Reply, Memory> {
+    let mut inodes = Items::new(alloc);
+    inodes.push(DoomedInode {
+        inode: InodeId::new(16),
+        phase: DeletionPhase::Waiting,
+    })?;
+    inodes.push(DoomedInode {
+        inode: InodeId::new(17),
+        phase: DeletionPhase::Purged,
+    })?;
+    Ok(Reply::Doomed(inodes))
+}
+
+fn runs(alloc: Global) -> Result<Reply, Memory> {
+    let mut runs = Items::new(alloc);
+    runs.push(DataRun {
+        offset: 0,
+        len: 10,
+        fill: 7,
+    })?;
+    runs.push(DataRun {
+        offset: 10,
+        len: 22,
+        fill: 0,
+    })?;
+    Ok(Reply::Data(runs))
+}
+
+/// Lists of none and of two, and texts.
+fn lists(alloc: Global, receipts: &mut Items<Listed>) -> Result<(), Memory> {
+    receipts.push(seen(Reply::Names(Items::new(alloc))))?;
+    receipts.push(seen(files(alloc)?))?;
+    receipts.push(seen(odd_names(alloc)?))?;
+    receipts.push(seen(Reply::Target(Text::from_slice(alloc, b"l1")?)))?;
+    receipts.push(seen(Reply::Target(Text::new(alloc))))?;
+    receipts.push(seen(Reply::Doomed(Items::new(alloc))))?;
+    receipts.push(seen(doomed(alloc)?))?;
+    receipts.push(seen(Reply::Data(Items::new(alloc))))?;
+    receipts.push(seen(runs(alloc)?))?;
+    Ok(())
 }
 
 fn refusals() -> [Code; 26] {
@@ -399,9 +414,7 @@ fn each_call_reply_and_refusal_has_its_text(rt: HostRuntime) -> Result<(), Fail>
     for reply in numbers() {
         receipts.push(seen(reply))?;
     }
-    for reply in lists(alloc)? {
-        receipts.push(seen(reply))?;
-    }
+    lists(alloc, &mut receipts)?;
     for code in refusals() {
         receipts.push(seen(Reply::Refused(code)))?;
     }

@@ -1,5 +1,4 @@
-use Rattle.std.proofs.Common.{◌≡◌, List, ◌++◌, ℕ, false, Option, Some, Result, ap}
-use Rattle.std.specs.Prelude.{OnOk}
+use Rattle.std.proofs.Common.{◌≡◌, List, ◌++◌, ℕ, false, Option, Some, ap}
 use Rattle.std.specs.Fmt.{AppendsText, styled_digits_output}
 use Rattle.std.proofs.lemmas.Fmt as digits
 use Rattle.std.proofs.lemmas.Result.{on_ok_weaker}
