@@ -410,8 +410,8 @@ module _ {K X Y : Type 0} {R : K → K → Ordering} (o : IsKeyOrder R) (f : X �
   inserted_each es made m all none =
       (λ i. insert_each f (all i) (none i))
       ∙ same_map o.total o.same _ _ (λ q.
-        get-insert_each (entries m) (entries_sorted m) empty q ∙ ap (over_it (find R q (entries m))) (get-empty R q)
-        ∙ alone (find R q (entries m)) ∙ ap (option_map f) (sym (get-entries m q)) ∙ sym (get-map_values R f m q))
+      get-insert_each (entries m) (entries_sorted m) empty q ∙ ap (over_it (find R q (entries m))) (get-empty R q)
+      ∙ alone (find R q (entries m)) ∙ ap (option_map f) (sym (get-entries m q)) ∙ sym (get-map_values R f m q))
     where
       alone : (x : Option X) → over_it x None ≡ option_map f x
       alone None = refl
