@@ -1,12 +1,11 @@
 -- Keys that rise one by one ascend; a row behind them all is the last.
-use Rattle.std.proofs.Common.{◌≡◌, ℕ, Bool, true, false, ◌&&◌, ◌↔◌, List, [], ◌∷◌, ◌++◌, Some, refl, sym, ap, ◌∙◌}
-use Rattle.std.specs.Prelude.{IsTrue}
+use Rattle.std.proofs.Common.{◌≡◌, ℕ, true, ◌↔◌, List, [], ◌∷◌, ◌++◌, Some, refl, ap, ◌∙◌}
 use Rattle.std.specs.Ordering.{is_lt}
 use Rattle.std.specs.declared.cmp.Ordering.{Ordering}
 use Rattle.std.specs.declared.cmp.Ordering.TheVariants.{Less, Equal, Greater}
 use Rattle.conflict_sets.specs.Keys.{key_cmp}
 use Rattle.conflict_sets.specs.Rows.{KeysAbove, KeysBefore, IsAscending, with_write}
-use Rattle.conflict_sets.proofs.KeyOrder.{key_less_flips, key_greater_flips}
+use Rattle.conflict_sets.proofs.KeyOrder.{key_less_flips}
 use Rattle.conflict_sets.proofs.RowLemmas.{KeysAbove_lower, with_write_greater}
 use Rattle.fs_base.specs.declared.row.Row.{Row}
 use Rattle.tree_model.proofs.MapLaws.{and_true, and_both}

@@ -1,12 +1,10 @@
 -- What stands at a key after a value was put there, or at another key.
-use Rattle.std.proofs.Common.{◌≡◌, ◌≢◌, ◌⊎◌, ℕ, List, refl, sym, ap, subst, ◌∙◌, inl, inr}
+use Rattle.std.proofs.Common.{◌≡◌, ◌≢◌, ℕ, List, refl, ap, ◌∙◌}
 use Rattle.std.specs.Prelude.{Option, Some, None}
 use Rattle.std.specs.Option.{option_map, option_and_then}
 use Rattle.key_schema.specs.declared.key.Key.{Key}
 use Rattle.key_schema.specs.declared.key.Key.TheVariants as keys
-use Rattle.fs_base.specs.declared.ids.ClientId.{ClientId}
 use Rattle.row_tree.specs.Values.{Value, AllocValue, DentValue, GcValue, KeptValue, InodeValue, SessionValue, as_inode, as_dent, as_session, as_kept, as_gc, as_alloc}
-use Rattle.tree_model.specs.Maps.{set}
 use Rattle.row_tree.specs.TypedRows.{TypedRows, lookup, write, of_form}
 use Rattle.tree_model.proofs.MapLaws.{ids, names, holders, get-set_same, get-set_other}
 
@@ -50,4 +48,3 @@ lookup-write_other S (keys.Idem c) w (keys.Idem e) ne = ap (option_map KeptValue
 lookup-write_other S (keys.Inode i) w (keys.Inode j) ne = ap (option_map InodeValue) (get-set_other ids S.inodes i (option_and_then as_inode w) j (λ e. ne (ap keys.Inode e)))
 lookup-write_other S (keys.Session i c n) w (keys.Session j d m) ne = ap (option_map SessionValue) (get-set_other holders S.sessions (i, (c.0, n)) (option_and_then as_session w) (j, (d.0, m)) (λ q. ne (ap (λ (x : ℕ × (ℕ × ℕ)). keys.Session x.0 (record { 0 = x.1.0 }) x.1.1) q)))
 lookup-write_other S k w q ne = refl
-

@@ -19,7 +19,7 @@ use Rattle.conflict_sets.proofs.KeyOrder.{key_exact}
 use Rattle.conflict_sets.proofs.RowLemmas.{by_place}
 use Rattle.row_records.specs.declared.rows.DentRow.{DentRow}
 use Rattle.key_schema.specs.declared.key.Key.TheVariants as keys
-use Rattle.row_tree.specs.Values.{DentValue, spelled_value, IsValue}
+use Rattle.row_tree.specs.Values.{DentValue, spelled_value}
 use Rattle.row_tree.specs.TypedRows.{TypedRows, in_dir, dir_rows}
 use Rattle.tree_model.specs.Maps.{dent_cmp}
 use Rattle.tree_model.proofs.MapLaws.{decide, both_first, both_second, names}

@@ -9,6 +9,7 @@ pub mod DirRanges
 pub mod OneTree
 pub mod OneValue
 pub mod Opening
+pub mod OpeningBytes
 pub mod OtherRanges
 pub mod PageLaws
 pub mod Prefixes

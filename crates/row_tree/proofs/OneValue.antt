@@ -1,5 +1,5 @@
 -- Within one form of row no two values have one spelling.
-use Rattle.std.proofs.Common.{◌≡◌, ap}
+use Rattle.std.proofs.Common.{ap}
 use Rattle.byte_fields.specs.Spelling.{IsSpelling}
 use Rattle.byte_fields.proofs.Spellings.{whole_is}
 use Rattle.inode_record.specs.Inode.{inode, spelled_inode, is_inode, inode_of}

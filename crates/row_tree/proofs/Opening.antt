@@ -4,7 +4,7 @@ use Rattle.std.specs.Prelude.{Some, IsTrue, nat_le}
 use Rattle.std.specs.Ordering.{nat_cmp}
 use Rattle.std.specs.FinMap.{empty, get, insert, get-empty}
 use Rattle.std.proofs.lemmas.Bool.{le-leb}
-use Rattle.fs_base.specs.Config.{Settings, IsConfig, admits}
+use Rattle.fs_base.specs.Config.{Settings, admits}
 use Rattle.inode_record.specs.declared.inode.InodeRow.{InodeRow}
 use Rattle.row_records.specs.declared.rows.DentRow.{DentRow}
 use Rattle.tree_model.specs.Maps.{dent_cmp, session_cmp}
@@ -12,7 +12,7 @@ use Rattle.tree_model.specs.Tree.{new_tree}
 use Rattle.tree_model.proofs.MapLaws.{ids, names, holders, not_some, some_injective, get-set_cases, get-set_same, map_values-set, map_values-empty, and_both}
 use Rattle.row_tree.specs.TreeOf.{tree_of, node_of, kept_of, doom_of}
 use Rattle.row_tree.specs.WellFormed.{FitsConfig, IsWellFormed}
-use Rattle.row_tree.specs.Opening.{root_row, opening_rows}
+use Rattle.row_tree.specs.Opening.{HasLimits, root_row, opening_rows}
 
 pub tree_of_opening : (C : Settings) → tree_of (opening_rows C) ≡ new_tree C
 tree_of_opening C = λ i.
@@ -25,7 +25,7 @@ tree_of_opening C = λ i.
       next = empty;
     }
 
-module _ (C : Settings) (fits : IsConfig C.servers C.nodes C.chains C.chunk C.stripe) where
+module _ (C : Settings) (fits : HasLimits C) where
   default_is_admitted : IsTrue (admits C (record { chunk = C.chunk; stripe = C.stripe }))
   default_is_admitted =
       and_both (nat_le 1 C.chunk && nat_le C.chunk 4194304) (nat_le 1 C.stripe && nat_le C.stripe C.chains)

@@ -11,7 +11,7 @@ use Rattle.conflict_sets.specs.Rows.{rows_between}
 use Rattle.fs_base.specs.declared.row.Row.{Row}
 use Rattle.row_records.specs.declared.rows.DentRow.{DentRow}
 use Rattle.key_schema.specs.declared.key.Key.TheVariants as keys
-use Rattle.row_tree.specs.Values.{Value, DentValue, spelled_value, IsValue}
+use Rattle.row_tree.specs.Values.{DentValue, IsValue}
 use Rattle.row_tree.specs.TypedRows.{TypedRows, in_dir, dir_rows}
 use Rattle.tree_model.specs.Maps.{dent_cmp}
 use Rattle.tree_model.proofs.MapLaws.{decide, both_first, both_second, find_below, not_some, names}

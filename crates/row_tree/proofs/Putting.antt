@@ -10,7 +10,6 @@ use Rattle.byte_fields.specs.declared.error.RowError.TheVariants.{NotARecord}
 use Rattle.fs_base.specs.declared.ids.ClientId.{ClientId}
 use Rattle.inode_record.specs.Inode.{inode_of}
 use Rattle.inode_record.specs.declared.inode.InodeRow.{InodeRow}
-use Rattle.key_schema.specs.declared.key.Key.{Key}
 use Rattle.key_schema.specs.declared.key.Key.TheVariants as keys
 use Rattle.row_records.specs.declared.rows.AllocRow.{AllocRow}
 use Rattle.row_records.specs.declared.rows.DentRow.{DentRow}
@@ -20,7 +19,7 @@ use Rattle.row_records.specs.declared.rows.SessionRow.{SessionRow}
 use Rattle.row_records.specs.Rows.{dent_of, session_of, kept_of, alloc_row, alloc_of, is_alloc, gc_of}
 use Rattle.row_tree.specs.Reading.{Puts, HasNoValue}
 use Rattle.row_tree.specs.TypedRows.{TypedRows, write}
-use Rattle.row_tree.specs.Values.{Value, InodeValue, DentValue, SessionValue, KeptValue, GcValue, AllocValue, spelled_value}
+use Rattle.row_tree.specs.Values.{InodeValue, DentValue, SessionValue, KeptValue, GcValue, AllocValue, spelled_value}
 use Rattle.row_tree.proofs.OneValue.{inodes, dents, sessions, kepts, gcs, allocs}
 
 -- an answer that names a place is the definition's

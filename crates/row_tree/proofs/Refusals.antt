@@ -1,12 +1,11 @@
 -- Rows that no typed rows spell: a key that is none, or a value that isn't one of the key's form.
 use Rattle.std.proofs.Common.{◌≡◌, ℕ, List, [], ◌∷◌, ◌++◌, Some, refl, sym, ap, ◌∙◌}
-use Rattle.std.specs.Option.{option_map}
 use Rattle.std.specs.declared.cmp.Ordering.TheVariants.{Less}
 use Rattle.conflict_sets.specs.Keys.{key_cmp}
 use Rattle.conflict_sets.specs.Rows.{KeysAbove, IsAscending, value_at_key}
 use Rattle.conflict_sets.proofs.KeyOrder.{key_self, key_less_flips}
 use Rattle.fs_base.specs.declared.row.Row.{Row}
-use Rattle.key_schema.specs.Keys.{IsKeyOf, IsNoKey, IsValidKey, spelled_key}
+use Rattle.key_schema.specs.Keys.{IsKeyOf, IsNoKey}
 use Rattle.key_schema.specs.declared.key.Key.{Key}
 use Rattle.row_tree.specs.Spelling.{Spells, IsValueOf}
 use Rattle.row_tree.specs.TypedRows.{TypedRows, lookup}

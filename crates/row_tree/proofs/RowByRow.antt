@@ -1,13 +1,11 @@
 -- Rows of bytes are put into typed rows one by one.
-use Rattle.std.proofs.Common.{◌≡◌, ℕ, zero, suc, ◌+◌, ◌<◌, List, [], ◌∷◌, ◌++◌, take, drop, length, get_or, refl, sym, ap, subst, ◌∙◌, append_assoc}
+use Rattle.std.proofs.Common.{◌≡◌, ℕ, zero, suc, ◌+◌, ◌<◌, List, [], ◌∷◌, ◌++◌, take, drop, length, get_or, sym, ap, subst, ◌∙◌, append_assoc}
 use Rattle.std.proofs.lemmas.Grind.{take_at_read}
 use Rattle.std.proofs.lemmas.List.{take-append-drop}
 use Rattle.std.specs.Prelude.{Some}
-use Rattle.std.specs.Option.{option_map}
 use Rattle.conflict_sets.specs.Rows.{KeysAbove, IsAscending, with_write}
 use Rattle.fs_base.specs.declared.row.Row.{Row}
-use Rattle.key_schema.specs.Keys.{IsKeyOf, spelled_key}
-use Rattle.key_schema.specs.declared.key.Key.{Key}
+use Rattle.key_schema.specs.Keys.{spelled_key}
 use Rattle.row_tree.specs.Reading.{PutsRow, IsNoRow}
 use Rattle.row_tree.specs.Spelling.{Spells}
 use Rattle.row_tree.specs.TypedRows.{TypedRows, write}
@@ -25,7 +23,7 @@ row_more rows row S U asc spells puts =
     let before = before_the_last rows row asc in
     let after : Spells (with_write (spelled_key key) (Some (spelled_value put.0)) rows) (write S key (Some put.0)) = spells_write rows S before.0 spells key (Some put.0) is_key.0 put.1 in
     let bytes : with_write (spelled_key key) (Some (spelled_value put.0)) rows ≡ rows ++ row ∷ [] =
-        (λ i. with_write (is_key.1 i) (Some (put.2 i)) rows) ∙ with_write_last rows row before.1 in
+    (λ i. with_write (is_key.1 i) (Some (put.2 i)) rows) ∙ with_write_last rows row before.1 in
     subst (λ V. Spells (rows ++ row ∷ []) V) (sym put.3) (subst (λ R. Spells R (write S key (Some put.0))) bytes after)
 
 -- rows with a row that is none are spelled by no typed rows
@@ -57,5 +55,5 @@ row_put rows i row S U asc l is spells puts =
 pub row_bad : (rows : List Row) (i : ℕ) (row : Row) → IsAscending rows → i < length rows → row ≡ get_or rows i row → IsNoRow row → (S : TypedRows) → Spells rows S → ⊥
 row_bad rows i row asc l is none S spells =
     let parts : rows ≡ take i rows ++ row ∷ drop (i + 1) rows =
-        sym (take-append-drop (i + 1) rows) ∙ (ap (λ front. front ++ drop (i + 1) rows) (taken rows i row l is) ∙ append_assoc (take i rows) (row ∷ []) (drop (i + 1) rows)) in
+    sym (take-append-drop (i + 1) rows) ∙ (ap (λ front. front ++ drop (i + 1) rows) (taken rows i row l is) ∙ append_assoc (take i rows) (row ∷ []) (drop (i + 1) rows)) in
     row_less (take i rows) row (drop (i + 1) rows) (subst IsAscending parts asc) none S (subst (λ R. Spells R S) parts spells)

@@ -1,5 +1,5 @@
 -- Rows that aren't well formed are no tree's.
-use Rattle.std.proofs.Common.{◌≡◌, ◌↔◌, Bool, true, false, List, refl, sym, subst, ◌∙◌}
+use Rattle.std.proofs.Common.{◌≡◌, ◌↔◌, Bool, true, false, List, sym, subst, ◌∙◌}
 use Rattle.std.specs.Prelude.{IsTrue}
 use Rattle.conflict_sets.specs.Rows.{IsAscending}
 use Rattle.fs_base.specs.Config.{Settings}

@@ -1,6 +1,5 @@
 -- What a row of bytes puts into typed rows, or that it is none.
-use Rattle.std.specs.Prelude.{◌≡◌, ℕ, List, Option, Some, None}
-use Rattle.std.specs.FinMap.{empty}
+use Rattle.std.specs.Prelude.{◌≡◌, ℕ, List, Some}
 use Rattle.fs_base.specs.declared.row.Row.{Row}
 use Rattle.key_schema.specs.Keys.{IsKeyOf}
 use Rattle.key_schema.specs.declared.key.Key.{Key}

@@ -46,7 +46,13 @@ impl TypedRows {
     }
 
     #[tactic(auto, using(crate::proofs::Putting::no_dent, crate::proofs::Putting::puts_dent))]
-    fn put_dent(&mut self, alloc: Global, dir: InodeId, name: Name, value: &[u8]) -> Result<(), TreeError>
+    fn put_dent(
+        &mut self,
+        alloc: Global,
+        dir: InodeId,
+        name: Name,
+        value: &[u8],
+    ) -> Result<(), TreeError>
         ensures ok { OnOk result (Puts self.old self.new (keys.Dent dir name) value.now) }
         ensures bad { IfErr result (λ e. e ≡ errors.BadRows → HasNoValue (keys.Dent dir name) value.now) }
     {

@@ -1,6 +1,6 @@
-use Rattle.std.proofs.Common.{rules, sym, ap}
+use Rattle.std.proofs.Common.{sym, ap}
 use Rattle.tree_model.specs.Tree.{Served}
-use Rattle.row_tree.proofs.TreeRead.{falls, rise, no_tree_unread, no_tree}
+use Rattle.row_tree.proofs.TreeRead.{falls, rise, no_tree}
 use Rattle.row_tree.proofs.tree.read_tree.Goals as goal
 
 pub returns-then-not-are_ascending-clause-bad : goal.returns-then-not-are_ascending-clause-bad
