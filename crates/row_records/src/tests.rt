@@ -145,14 +145,26 @@ fn again(alloc: Global, kind: &str, bytes: &[u8]) -> Result<Vec<u8>, RowError> {
         "alloc" => AllocRow::read(alloc, bytes)?.write(alloc),
         "gc" => GcRow::read(alloc, bytes)?.write(alloc),
         "call" => call_again(alloc, bytes)?,
-        _ => reply_write(alloc, &reply_read(alloc, bytes)?),
+        _ => reply_again(alloc, bytes)?,
     };
     written.map_err(|_| RowError::Memory)
 }
 
+/// What is written of a copy.
 fn call_again(alloc: Global, bytes: &[u8]) -> Result<Result<Vec<u8>, Memory>, RowError> {
     let (stamp, call) = call_read(alloc, bytes)?;
-    Ok(call_write(alloc, stamp, &call))
+    let Ok(copy) = call.try_clone(alloc) else {
+        return Err(RowError::Memory);
+    };
+    Ok(call_write(alloc, stamp, &copy))
+}
+
+fn reply_again(alloc: Global, bytes: &[u8]) -> Result<Result<Vec<u8>, Memory>, RowError> {
+    let reply = reply_read(alloc, bytes)?;
+    let Ok(copy) = reply.try_clone(alloc) else {
+        return Err(RowError::Memory);
+    };
+    Ok(reply_write(alloc, &copy))
 }
 
 #[test]
