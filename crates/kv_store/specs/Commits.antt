@@ -6,7 +6,8 @@ use Rattle.conflict_sets.specs.declared.sets.ReadSet.{ReadSet}
 use Rattle.conflict_sets.specs.declared.sets.WriteSet.{WriteSet}
 use Rattle.kv_store.specs.Journal.{rows_at, first_later}
 
--- each entry is sound, agreed with the rows at its snapshot, and met no later write of what it read; done are the entries before
+-- Each entry is sound. It read what stood at its snapshot, and nobody wrote any of that between then and its place.
+-- done are the entries before.
 abbrev pub IsCommitted : {E : Type 0} → (E → ReadSet) → (E → WriteSet) → (E → Type 0) → List Row → List E → List ℕ → List E → Type 0
 IsCommitted reads_of writes_of sound opening done snapshots [] = Unit {0}
 IsCommitted reads_of writes_of sound opening done [] (entry ∷ entries) = ⊥

@@ -9,8 +9,8 @@ ghost use Rattle.kv_store.specs.Later.{IsFirst};
 
 use conflict_sets::EntryLaw;
 
-/// The law of optimistic commits: where each entry is sound, agreed with the rows at its snapshot, and met no later
-/// write of what it read, the rows are good at every version. It does nothing; its contract is the law.
+/// The law of optimistic commits: sound entries that read at snapshots, and of whose reads nothing was written before
+/// their own places, keep the rows good at every version. It does nothing; its contract is the law.
 pub fn optimistic_commits<E: EntryLaw>()
     ensures { (config : Settings) (opening : List Row) (snapshots : List ℕ) (journal : List E) → IsAscending opening → E.good config opening → IsCommitted E.reads_of E.writes_of (E.sound config) opening [] snapshots journal → (n : ℕ) → E.good config (rows_at E.writes_of opening journal n) }
 {}
