@@ -1,0 +1,9 @@
+//! What a request asks for and is answered, and what its attempt has read and would write.
+#![tactic(auto)]
+
+mod messages;
+mod txn;
+mod writes;
+
+pub use messages::{Answer, Ask, Asked, Entry, OpStep};
+pub use txn::Txn;

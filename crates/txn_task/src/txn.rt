@@ -1,0 +1,189 @@
+ghost use Rattle.std.specs.Prelude.{◌≡◌, ◌∷◌, ◌++◌, [], None, Some, OnOk, OnErr, IfOk};
+ghost use Rattle.std.specs.Option.{option_map};
+ghost use Rattle.conflict_sets.specs.Writes.{AreAscending};
+ghost use Rattle.key_schema.specs.Keys.{spelled_key, IsValidKey};
+ghost use Rattle.txn_task.specs.Agreeing.{AreWrites};
+ghost use Rattle.txn_task.specs.Transactions.{started, noted, with_key, with_range, IsNews};
+ghost use Rattle.txn_task.specs.Writes.{set_write, read_of};
+
+use crate::messages::{Answer, Ask};
+use crate::writes::set_in;
+use conflict_sets::{Got, KeyRead, RangeRead, ReadSet, Write, WriteSet, compare};
+use fs_base::{Items, Memory, Row, Text};
+use key_schema::Key;
+use std::alloc::Global;
+use std::marker::Model;
+
+/// What an attempt has read since it began, all at one version, and what it would write.
+#[derive(Drop)]
+pub struct Txn {
+    snapshot: u64,
+    reads: ReadSet,
+    writes: Vec<Write>,
+}
+
+impl Model for Txn {
+    ghost use Rattle.std.specs.Coded.{codes};
+    ghost use Rattle.conflict_sets.specs.contracts.sets.ReadSet as read_set;
+    ghost use Rattle.conflict_sets.specs.contracts.sets.Write as write;
+    ghost use Rattle.txn_task.specs.Transactions.{Transaction};
+
+    ghost Value = { Transaction };
+
+    ghost coded = { Prim.hlevel (codes, read_set.the_row.coded, write.the_row.coded) };
+
+    ghost view = { λ t. record { snapshot = t.snapshot; reads = t.reads; writes = t.writes.items } };
+}
+
+fn no_reads(alloc: Global) -> ReadSet
+    ensures { result ≡ record { keys = []; ranges = [] } }
+{
+    ReadSet {
+        keys: Items::new(alloc),
+        ranges: Items::new(alloc),
+    }
+}
+
+/// The value read at a key, if it was read.
+fn read_in<'a>(reads: &'a [KeyRead], key: &[u8]) -> Option<&'a Option<Text>>
+    ensures { option_map (λ v. v.now) result ≡ read_of reads.now key.now }
+{
+    for read in reads {
+        if compare(key, read.key.as_slice()).is_eq() {
+            return Some(&read.value);
+        }
+    }
+    None
+}
+
+fn copy_value(value: &Option<Text>) -> Result<Option<Text>, Memory>
+    ensures { IfOk result (λ copy. copy ≡ value.now) }
+{
+    match value {
+        None => Ok(None),
+        Some(text) => Ok(Some(text.try_clone()?)),
+    }
+}
+
+fn copy_row(row: &Row) -> Result<Row, Memory>
+    ensures { IfOk result (λ copy. copy ≡ row.now) }
+{
+    let key = row.key.try_clone()?;
+    let value = row.value.try_clone()?;
+    Ok(Row { key, value })
+}
+
+fn copy_rows(alloc: Global, rows: &[Row]) -> Result<Items<Row>, Memory>
+    ensures { IfOk result (λ copies. copies ≡ rows.now) }
+{
+    let mut copies = Items::new(alloc);
+    for row in rows {
+        copies.push(copy_row(row)?)?;
+    }
+    Ok(copies)
+}
+
+impl Txn {
+    /// Nothing is read or written, and the snapshot is 0, until it begins.
+    pub fn new(alloc: Global) -> Txn
+        ensures { result ≡ started 0 }
+    {
+        Txn {
+            snapshot: 0,
+            reads: no_reads(alloc),
+            writes: Vec::new(alloc),
+        }
+    }
+
+    /// A new attempt at this version. What was read and written before is dropped.
+    pub fn begin(&mut self, alloc: Global, version: u64)
+        ensures { self.new ≡ started version }
+    {
+        self.snapshot = version;
+        self.reads = no_reads(alloc);
+        self.writes = Vec::new(alloc);
+    }
+
+    /// The version that is read: that of the last begin.
+    pub fn snapshot(&self) -> u64
+        ensures { result ≡ self.now.snapshot }
+    {
+        self.snapshot
+    }
+
+    /// `Some` exactly where the key was read, with the value that was read.
+    pub fn kept(&self, key: &[u8]) -> Option<Option<&[u8]>>
+        ensures { option_map (option_map (λ v. v.now)) result ≡ read_of self.now.reads.keys key.now }
+    {
+        match read_in(self.reads.keys.as_slice(), key) {
+            None => None,
+            Some(None) => Some(None),
+            Some(Some(value)) => Some(Some(value.as_slice())),
+        }
+    }
+
+    fn note_key(&mut self, alloc: Global, key: &Key, got: &Got) -> Result<(), Memory>
+        ensures ok { OnOk result (self.new ≡ record self.old { reads = with_key self.old.reads (spelled_key key.now) got.now.value }) }
+        ensures err { OnErr result (self.new ≡ self.old) }
+    {
+        let key = Text::from_vec(key.write(alloc)?);
+        let value = copy_value(&got.value)?;
+        self.reads.keys.push(KeyRead { key, value })
+    }
+
+    fn note_range(&mut self, range: RangeRead) -> Result<(), Memory>
+        ensures ok { OnOk result (self.new ≡ record self.old { reads = with_range self.old.reads range }) }
+        ensures err { OnErr result (self.new ≡ self.old) }
+    {
+        self.reads.ranges.push(range)
+    }
+
+    /// Adds the read that an answer tells of: a Get's, of a key that wasn't read, or a Range's.
+    ///
+    /// Without memory for it the transaction stays as it was.
+    pub fn note(&mut self, alloc: Global, ask: &Ask, answer: &Answer) -> Result<(), Memory>
+        requires { IsNews self.old.reads ask.now answer.now }
+        ensures ok { OnOk result (self.new ≡ record self.old { reads = noted self.old.reads ask.now answer.now }) }
+        ensures err { OnErr result (self.new ≡ self.old) }
+    {
+        match (ask, answer) {
+            (Ask::Get(key), Answer::Got(got)) => self.note_key(alloc, key, got),
+            (Ask::Range { lo, hi, limit }, Answer::Rows(rows)) => {
+                let range = RangeRead {
+                    lo: lo.try_clone()?,
+                    hi: hi.try_clone()?,
+                    limit: *limit,
+                    rows: copy_rows(alloc, rows.as_slice())?,
+                };
+                self.note_range(range)
+            }
+            _ => Ok(()),
+        }
+    }
+
+    /// Sets the write of a key: a value, or `None` where the key is to lose its own. It takes the place of an earlier
+    /// write of the key.
+    ///
+    /// Without memory for it the transaction stays as it was.
+    #[tactic(auto, using(crate::proofs::WriteLaws::ascending_put, crate::proofs::TxnLaws::are_writes_put))]
+    pub fn put(&mut self, alloc: Global, key: &Key, value: Option<Vec<u8>>) -> Result<(), Memory>
+        ensures ok { OnOk result (self.new ≡ record self.old { writes = set_write (spelled_key key.now) (option_map (λ v. v.items) value) self.old.writes }) }
+        ensures err { OnErr result (self.new ≡ self.old) }
+        ensures ascending { AreAscending self.old.writes → AreAscending self.new.writes }
+        ensures valid { IsValidKey key.now → AreWrites self.old.writes → AreWrites self.new.writes }
+    {
+        let key = Text::from_vec(key.write(alloc)?);
+        let value = value.map(Items::from_vec);
+        set_in(&mut self.writes, Write { key, value })
+    }
+
+    /// What was read, and what is to be written.
+    pub fn into_sets(self) -> (ReadSet, WriteSet)
+        ensures { result ≡ (self.reads, record { writes = self.writes }) }
+    {
+        let writes = WriteSet {
+            writes: Items::from_vec(self.writes),
+        };
+        (self.reads, writes)
+    }
+}
