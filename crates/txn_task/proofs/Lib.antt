@@ -1,3 +1,4 @@
 pub mod PlaceLemmas
+pub mod TellLaws
 pub mod TxnLaws
 pub mod WriteLaws

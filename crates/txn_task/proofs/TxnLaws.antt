@@ -1,6 +1,7 @@
 -- From reads and writes of bytes to typed rows.
-use Rattle.std.proofs.Common.{◌≡◌, ℕ, zero, suc, ◌<◌, length, arith, ◌^◌, List, [], ◌∷◌, ◌++◌, take, map, refl, sym, ap, subst, ◌∙◌}
-use Rattle.std.specs.Prelude.{Option, Some, None, Contains, slice_index_or}
+use Rattle.std.proofs.Common.{◌≡◌, ℕ, suc, ◌<◌, ◌^◌, List, [], ◌∷◌, ◌++◌, take, map, refl, sym, ap, subst, ◌∙◌}
+use Rattle.std.specs.Prelude.{Option, Some, None, Bool, true, false, cond}
+use Rattle.std.specs.List.{find}
 use Rattle.std.specs.FinMap.{get}
 use Rattle.std.specs.Option.{option_map}
 use Rattle.conflict_sets.specs.Reads as bytes
@@ -24,6 +25,11 @@ use Rattle.row_tree.proofs.OneValue.{one_value_each}
 use Rattle.row_tree.proofs.Ranges.{empty_range, used_range}
 use Rattle.row_tree.proofs.SpellingLaws.{at_any, spells_write, found_back, lookup-form}
 use Rattle.txn_task.specs.Agreeing.{Agrees, LeadsTo, AreWrites, HaveValidKeys}
+use Rattle.txn_task.specs.Transactions.{noted}
+use Rattle.txn_task.specs.declared.messages.Answer.{Answer}
+use Rattle.txn_task.specs.declared.messages.Answer.TheVariants as answers
+use Rattle.txn_task.specs.declared.messages.Ask.{Ask}
+use Rattle.txn_task.specs.declared.messages.Ask.TheVariants as asks
 use Rattle.txn_task.specs.Writes.{set_write, read_of}
 use Rattle.txn_task.proofs.WriteLaws.{with_writes-set_write, ascending_put, value_of_read}
 
@@ -118,11 +124,26 @@ told_used_dir S reads d n r rs a fits has =
     let some = used_mapped (spelled_dent d) (take (suc n) (dir_rows S d)) r rs (told_dir S reads d (suc n) (r ∷ rs) a fits has) in
     (some.0.0, some.0.1, used_range S d n some.0 some.1 some.2)
 
--- a range read is among the reads
-range_at_place : (rows : List Row) (reads : List RangeRead) (r : RangeRead) (k : ℕ) → bytes.RangesAgree rows reads → k < length reads → slice_index_or reads k r ≡ r → rows_between rows r.lo r.hi r.limit ≡ r.rows
-range_at_place rows [] r k h l e = absurd (omega arith)
-range_at_place rows (x ∷ reads) r zero h l e = subst (λ (y : RangeRead). rows_between rows y.lo y.hi y.limit ≡ y.rows) e h.0
-range_at_place rows (x ∷ reads) r (suc k) h l e = range_at_place rows reads r k h.1 (omega arith) e
+-- the first range read that passes a test passes it, and rows that agree give it
+pub record IsFound (p : RangeRead → Bool) (reads : List RangeRead) (r : RangeRead) : Type 0 where
+  pub passes : p r ≡ true
+  pub gives : (rows : List Row) → bytes.RangesAgree rows reads → rows_between rows r.lo r.hi r.limit ≡ r.rows
 
-pub has_range : (reads : ReadSet) (r : RangeRead) → Contains reads.ranges r → HasRange reads r.lo r.hi r.limit r.rows
-has_range reads r has = record { at = λ rows agrees. range_at_place rows reads.ranges r has.0 agrees.ranges has.1 has.2 }
+pub range_found : (p : RangeRead → Bool) (reads : List RangeRead) (r : RangeRead) → find p reads ≡ Some r → IsFound p reads r
+range_found p [] r e = absurd (cc)
+range_found p (x ∷ reads) r e = by_test (p x) refl e (range_found p reads r)
+  where
+    this : Some x ≡ Some r → x ≡ r
+    this e = cc
+
+    by_test : (b : Bool) → p x ≡ b → cond b (Some x) (find p reads) ≡ Some r → (find p reads ≡ Some r → IsFound p reads r) → IsFound p (x ∷ reads) r
+    by_test true is f later = record { passes = subst (λ y. p y ≡ true) (this f) is; gives = λ rows h. subst (λ (y : RangeRead). rows_between rows y.lo y.hi y.limit ≡ y.rows) (this f) h.0 }
+    by_test false is f later = let found = later f in record { passes = found.passes; gives = λ rows h. found.gives rows h.1 }
+
+-- ---- a read that is noted
+pub agrees_noted : (S : TypedRows) (reads : ReadSet) (ask : Ask) (answer : Answer) → Agrees S (noted reads ask answer) → Agrees S reads
+agrees_noted S reads (asks.Get key) (answers.Got got) a =
+    agrees_fewer S reads (noted reads (asks.Get key) (answers.Got got)) (λ rows h. record { keys = keys_fewer rows reads.keys _ h.keys; ranges = h.ranges }) a
+agrees_noted S reads (asks.Range lo hi limit) (answers.Rows found) a =
+    agrees_fewer S reads (noted reads (asks.Range lo hi limit) (answers.Rows found)) (λ rows h. record { keys = h.keys; ranges = ranges_fewer rows reads.ranges _ h.ranges }) a
+agrees_noted S reads ask answer a = a

@@ -1,3 +1,4 @@
 pub mod Agreeing
 pub mod Transactions
+pub mod Wanted
 pub mod Writes

@@ -122,6 +122,12 @@ impl Txn {
         }
     }
 
+    pub(crate) fn ranges(&self) -> &[RangeRead]
+        ensures { result.now ≡ self.now.reads.ranges }
+    {
+        self.reads.ranges.as_slice()
+    }
+
     fn note_key(&mut self, alloc: Global, key: &Key, got: &Got) -> Result<(), Memory>
         ensures ok { OnOk result (self.new ≡ record self.old { reads = with_key self.old.reads (spelled_key key.now) got.now.value }) }
         ensures err { OnErr result (self.new ≡ self.old) }
