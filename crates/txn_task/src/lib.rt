@@ -9,3 +9,6 @@ mod writes;
 pub use messages::{Answer, Ask, Asked, Entry, OpStep};
 pub use txn::Txn;
 pub use want::{Want, WantRange, want_alloc, want_dent, want_inode, want_range};
+
+#[cfg(test)]
+mod tests;
