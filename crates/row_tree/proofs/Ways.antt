@@ -1,7 +1,6 @@
 -- The way up from a directory: it has no id twice, so it is no longer than the rows that it meets.
 use Rattle.std.proofs.Common.{◌≡◌, ◌≢◌, ◌⊎◌, ℕ, zero, suc, ◌-◌, ◌<◌, ◌≤◌, true, false, ◌||◌, Bool, List, [], ◌∷◌, length, drop, get_or, refl, sym, ap, subst, ◌∙◌, inl, inr, arith, eqb, eqb-true, ne_eqb, nat_eq, cond, length-drop}
 use Rattle.std.specs.Prelude.{Some, IsSome}
-use Rattle.std.specs.Option.{option_and_then}
 use Rattle.std.specs.List.{IsDistinct, list_any}
 use Rattle.std.specs.Map.{lookup}
 use Rattle.std.specs.Ordering.{nat_cmp}
@@ -10,9 +9,10 @@ use Rattle.std.specs.FinMap.{get, entries, get-entries, find, len, len-entries}
 use Rattle.std.proofs.lemmas.Map.Keys.{IsDistinct-from_apart}
 use Rattle.std.proofs.lemmas.Map.Steps.{length-le_from_keys}
 use Rattle.inode_record.specs.declared.inode.InodeRow.{InodeRow}
-use Rattle.row_tree.specs.TypedRows.{TypedRows, parent_of, parent_at}
+use Rattle.row_tree.specs.TypedRows.{TypedRows, parent_at}
 use Rattle.row_tree.specs.WellFormed.{IsPath}
-use Rattle.tree_model.proofs.MapLaws.{some_or_none, not_some, some_injective}
+use Rattle.tree_model.proofs.MapLaws.{some_injective}
+use Rattle.row_tree.proofs.Adding.{parent_row}
 
 -- the whole way from an id up to below the root
 abbrev pub IsWay : TypedRows → ℕ → List ℕ → Type 0
@@ -26,13 +26,6 @@ zero_or (suc j) = inr (λ q. omega arith)
 pub or_true : (a b : Bool) → (a || b) ≡ true → (a ≡ true) ⊎ (b ≡ true)
 or_true true b h = inl refl
 or_true false b h = inr h
-
--- what has a parent has a row
-pub parent_row : (S : TypedRows) (i p : ℕ) → parent_at S i ≡ Some p → (row : InodeRow) × (get S.inodes i ≡ Some row) × (parent_of row.part ≡ Some p)
-parent_row S i p is = elim (some_or_none (get S.inodes i)) [
-  | inl none ↦ absurd (not_some p (ap (option_and_then (λ row. parent_of row.part)) none) is)
-  | inr at ↦ (at.0, at.1, ap (option_and_then (λ row. parent_of row.part)) (sym at.1) ∙ is)
-]
 
 module _ (S : TypedRows) where
   pub way_of_path : (i : ℕ) (path : List ℕ) → IsPath S i path → (way : List ℕ) × IsWay S i way
