@@ -1,5 +1,9 @@
+pub mod Attributes
 pub mod Below
 pub mod Calls
+pub mod Creating
+pub mod Effects
+pub mod Finding
 pub mod Making
 pub mod Maps
 pub mod Tree

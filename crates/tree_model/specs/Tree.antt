@@ -3,11 +3,11 @@ use Rattle.std.specs.Prelude.{ℕ}
 use Rattle.std.specs.Option.{unwrap_or}
 use Rattle.std.specs.Ordering.{nat_cmp}
 use Rattle.std.specs.FinMap.{FinMap, empty, get, insert}
-use Rattle.fs_base.specs.declared.layout.DefaultLayout.{DefaultLayout}
 use Rattle.fs_base.specs.declared.config.Config.{Config}
 use Rattle.tree_model.specs.declared.kept.Doom.{Doom}
 use Rattle.tree_model.specs.declared.kept.KeptReply.{KeptReply}
 use Rattle.tree_model.specs.declared.node.Node.{Node}
+use Rattle.tree_model.specs.declared.node.NodePart.{NodePart}
 use Rattle.tree_model.specs.declared.node.NodePart.TheVariants.{Dir}
 use Rattle.tree_model.specs.declared.tree.TreeParts.{TreeParts}
 use Rattle.tree_model.specs.Maps.{dent_cmp, session_cmp}
@@ -39,12 +39,12 @@ of_parts p = record { nodes = p.nodes; entries = p.entries; writers = p.writers;
 abbrev pub next_at : FinMap nat_cmp ℕ → ℕ → ℕ
 next_at next server = unwrap_or (get next server) 1
 
--- a directory of owner and group 0, with the stamp as each of its times
-abbrev pub directory_of : ℕ → ℕ → DefaultLayout → Node
-directory_of mode stamp layout = record { mode = mode; owner = 0; group = 0; atime = stamp; mtime = stamp; ctime = stamp; part = Dir layout }
+-- a new node: owner and group 0, with the stamp as each of its times
+abbrev pub node_with : ℕ → ℕ → NodePart → Node
+node_with mode stamp part = record { mode = mode; owner = 0; group = 0; atime = stamp; mtime = stamp; ctime = stamp; part = part }
 
 abbrev pub root_of : Config → Node
-root_of C = directory_of 493 0 (record { chunk = C.chunk; stripe = C.stripe })
+root_of C = node_with 493 0 (Dir (record { chunk = C.chunk; stripe = C.stripe }))
 
 abbrev pub new_tree : Config → Tree
 new_tree C = record { nodes = insert empty 0 (root_of C); entries = empty; writers = empty; kept = empty; doomed = empty; next = empty }

@@ -1,6 +1,11 @@
-ghost use Rattle.std.specs.Prelude.{◌≡◌, ◌<◌, IsTrue, IfOk, OnErr};
-ghost use Rattle.tree_model.specs.Calls.{apply, is_built};
+ghost use Rattle.std.specs.Prelude.{◌≡◌, ◌<◌, Bool, false, true, IsTrue, IfOk, OnErr};
+ghost use Rattle.std.specs.FinMap.{get};
+ghost use Rattle.tree_model.specs.Effects.{Leaves};
+ghost use Rattle.tree_model.specs.Calls.{apply, after_kept, effect, is_built, is_query, settle};
+ghost use Rattle.tree_model.specs.Making.{IsPlan};
 
+use crate::new_node::NewNode;
+use crate::plan::Plan;
 use crate::tree::Tree;
 use fs_base::{Call, Memory, Reply, Request};
 use std::alloc::Global;
@@ -9,10 +14,106 @@ use std::alloc::Global;
 pub fn is_built(call: &Call) -> bool
     ensures { result ≡ is_built call.now }
 {
-    matches!(call, Call::Lookup(_) | Call::Mkdir { .. })
+    matches!(
+        call,
+        Call::Lookup(_)
+            | Call::Stat(_)
+            | Call::List(_)
+            | Call::Readlink(_)
+            | Call::Mkdir { .. }
+            | Call::Create { .. }
+            | Call::Symlink { .. }
+            | Call::Setattr { .. }
+    )
+}
+
+/// Whether a call changes nothing, whatever the tree. The replies to such calls aren't kept.
+pub fn is_query(call: &Call) -> bool
+    ensures { result ≡ is_query call.now }
+{
+    matches!(
+        call,
+        Call::Lookup(_)
+            | Call::Stat(_)
+            | Call::List(_)
+            | Call::Readlink(_)
+            | Call::Openr(_)
+            | Call::Fstat(_)
+            | Call::Doomed
+    )
 }
 
 impl Tree {
+    /// The reply to a query.
+    fn answer(&self, alloc: Global, request: &Request) -> Result<Reply, Memory>
+        requires built { IsTrue (is_built request.now.call) }
+        requires query { is_query request.now.call ≡ true }
+        ensures { IfOk result (λ reply. effect self.now.config self.now.tree request.now ≡ Leaves reply) }
+    {
+        match &request.call {
+            Call::Lookup(place) => self.lookup(alloc, place),
+            Call::Stat(place) => self.stat(alloc, place),
+            Call::List(place) => self.list(alloc, place),
+            Call::Readlink(place) => self.readlink(alloc, place),
+            _ => unreachable!(),
+        }
+    }
+
+    /// What an update is to do.
+    fn plan(&self, alloc: Global, request: &Request) -> Result<Plan, Memory>
+        requires server { request.now.server < 16 }
+        requires built { IsTrue (is_built request.now.call) }
+        requires update { is_query request.now.call ≡ false }
+        ensures { IfOk result (IsPlan self.now.tree request.now.server request.now.stamp (effect self.now.config self.now.tree request.now)) }
+    {
+        match &request.call {
+            Call::Mkdir {
+                place,
+                mode,
+                layout,
+            } => self.plan_make(alloc, request, place, NewNode::dir(*mode, *layout)),
+            Call::Create {
+                place,
+                mode,
+                layout,
+            } => self.plan_make(alloc, request, place, NewNode::file(*mode, *layout)),
+            Call::Symlink { place, target } => self.plan_symlink(alloc, request, place, target),
+            Call::Setattr { place, changes } => self.plan_setattr(alloc, request, place, *changes),
+            _ => unreachable!(),
+        }
+    }
+
+    /// Does what an update is to do, and keeps its reply.
+    fn perform(&mut self, alloc: Global, request: &Request) -> Result<Reply, Memory>
+        requires server { request.now.server < 16 }
+        requires built { IsTrue (is_built request.now.call) }
+        requires update { is_query request.now.call ≡ false }
+        ensures ok { IfOk result (λ reply. settle self.old.tree request.now (effect self.old.config self.old.tree request.now) ≡ (self.new.tree, reply)) }
+        ensures config { self.new.config ≡ self.old.config }
+        ensures err { OnErr result (self.new ≡ self.old) }
+    {
+        match self.plan(alloc, request)? {
+            Plan::Refuse(code) => Ok(Reply::Refused(code)),
+            Plan::Add(child) => self.add_kept(request, child),
+            Plan::Change(id, changes) => self.change_kept(request, id, changes),
+        }
+    }
+
+    /// An update looks at its client's kept reply first.
+    fn update(&mut self, alloc: Global, request: &Request) -> Result<Reply, Memory>
+        requires server { request.now.server < 16 }
+        requires built { IsTrue (is_built request.now.call) }
+        requires update { is_query request.now.call ≡ false }
+        ensures ok { IfOk result (λ reply. after_kept self.old.config self.old.tree request.now (get self.old.tree.kept request.now.client.0) ≡ (self.new.tree, reply)) }
+        ensures config { self.new.config ≡ self.old.config }
+        ensures err { OnErr result (self.new ≡ self.old) }
+    {
+        match self.earlier_reply(alloc, request)? {
+            Some(reply) => Ok(reply),
+            None => self.perform(alloc, request),
+        }
+    }
+
     /// What a request does to the tree, and its reply. A refusal or a query leaves the tree as it was.
     #[tactic(auto, unfolding(crate::specs::Calls::apply))]
     pub fn apply(&mut self, alloc: Global, request: &Request) -> Result<Reply, Memory>
@@ -22,14 +123,10 @@ impl Tree {
         ensures config { self.new.config ≡ self.old.config }
         ensures err { OnErr result (self.new ≡ self.old) }
     {
-        match &request.call {
-            Call::Lookup(place) => self.lookup(alloc, place),
-            Call::Mkdir {
-                place,
-                mode,
-                layout,
-            } => self.mkdir(alloc, request, place, *mode, *layout),
-            _ => unreachable!(),
+        if is_query(&request.call) {
+            self.answer(alloc, request)
+        } else {
+            self.update(alloc, request)
         }
     }
 }

@@ -2,21 +2,29 @@
 #![tactic(auto)]
 
 mod apply;
+mod attributes;
+mod finding;
+mod keeping;
 mod kept;
-mod lookup;
 mod make;
 mod maps;
 mod names;
+mod new_node;
 mod node;
+mod plan;
+mod setattr;
+#[cfg(test)]
+mod tests;
 mod tree;
 mod walk;
 mod walking;
 
-pub use apply::is_built;
+pub use apply::{is_built, is_query};
 pub use kept::{Doom, KeptReply};
 pub use make::is_layout;
 pub use maps::{ByClient, ByName, ByNumber, BySession};
 pub use names::Names;
+pub use new_node::{NewNode, NewPart, first_hint};
 pub use node::{Node, NodePart};
 pub use tree::{Tree, TreeParts};
 pub use walk::{WalkEnd, Walked};

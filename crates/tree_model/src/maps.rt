@@ -1,9 +1,9 @@
-ghost use Rattle.std.specs.Prelude.{◌≡◌, ◌<◌, ◌^◌, length, None, IsSome, IfOk, OnOk, OnErr};
+ghost use Rattle.std.specs.Prelude.{◌≡◌, ℕ, ◌<◌, ◌^◌, ◌==◌, length, None, Some, IsSome, IfOk, OnOk, OnErr};
 ghost use Rattle.std.specs.Option.{option_copied};
 ghost use Rattle.std.specs.FinMap as map;
-ghost use Rattle.tree_model.specs.Maps.{set};
+ghost use Rattle.tree_model.specs.Maps.{set, count_where};
 
-use fs_base::{Memory, Name};
+use fs_base::{InodeId, Memory, Name};
 use std::alloc::Global;
 use std::collections::BTreeMap;
 use std::collections::btree_map::{IntoIter, Iter};
@@ -77,6 +77,18 @@ impl<V: Drop> ByNumber<V> {
         ensures removed { self.new ≡ map.remove self.old key }
     {
         self.pairs.remove(&key)
+    }
+
+    /// Gives a key that has a value another one, and gives back the one before. It takes no memory.
+    pub fn replace(&mut self, key: u64, value: V) -> V
+        requires { IsSome (map.get self.old key) }
+        ensures before { map.get self.old key ≡ Some result }
+        ensures replaced { self.new ≡ map.insert self.old key value }
+    {
+        let Ok(Some(before)) = self.insert(key, value) else {
+            unreachable!()
+        };
+        before
     }
 
     /// Gives a key that has a value this value, or none. It takes no memory.
@@ -173,6 +185,21 @@ impl<V: Drop> ByName<V> {
         ensures { result ≡ map.entries self }
     {
         self.pairs.into_iter()
+    }
+}
+
+impl ByName<InodeId> {
+    /// How many entries lead to an inode.
+    pub fn count_to(&self, id: InodeId) -> usize
+        ensures { result ≡ count_where (λ (x : ℕ). x == id) self.now }
+    {
+        let mut count = 0;
+        for (_key, value) in self.iter() {
+            if value.get() == id.get() {
+                count += 1;
+            }
+        }
+        count
     }
 }
 
@@ -309,6 +336,23 @@ impl<V: Drop> ByClient<V> {
         ensures removed { self.new ≡ map.remove self.old key }
     {
         self.pairs.remove(&key)
+    }
+
+    /// Gives a key that has a value this value, or none. It takes no memory.
+    pub fn put_back(&mut self, key: u128, before: Option<V>)
+        requires { IsSome (map.get self.old key) }
+        ensures { self.new ≡ set self.old key before }
+    {
+        match before {
+            Some(value) => {
+                if self.insert(key, value).is_err() {
+                    unreachable!()
+                }
+            }
+            None => {
+                self.remove(key);
+            }
+        }
     }
 
     /// The keys with their values, in the order of the keys, taken out of the map.

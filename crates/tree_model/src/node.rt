@@ -1,7 +1,8 @@
 ghost use Rattle.std.specs.Prelude.{◌≡◌};
-ghost use Rattle.tree_model.specs.Tree.{root_of, directory_of};
+ghost use Rattle.tree_model.specs.Attributes.{kind_of_part, length_of, changed};
+ghost use Rattle.tree_model.specs.Tree.{root_of, node_with};
 
-use fs_base::{Config, DefaultLayout, Layout, Text};
+use fs_base::{Changes, Config, DefaultLayout, Kind, Layout, Text};
 
 /// What a node is.
 #[derive(Debug, Drop)]
@@ -22,6 +23,30 @@ pub enum NodePart {
     Link {
         target: Text,
     },
+}
+
+impl NodePart {
+    /// What kind of node it is.
+    pub fn kind(&self) -> Kind
+        ensures { result ≡ kind_of_part self.now }
+    {
+        match self {
+            NodePart::Dir { .. } => Kind::Dir,
+            NodePart::File { .. } => Kind::File,
+            NodePart::Link { .. } => Kind::Link,
+        }
+    }
+
+    /// A file's stored length in bytes, or that of a link's target; 0 for a directory.
+    pub fn length(&self) -> u64
+        ensures { result ≡ length_of self.now }
+    {
+        match self {
+            NodePart::Dir { .. } => 0,
+            NodePart::File { length, .. } => *length,
+            NodePart::Link { target } => target.len() as u64,
+        }
+    }
 }
 
 /// An inode of the plain tree. It knows neither its id, its names nor the directory that it is in.
@@ -47,12 +72,12 @@ impl Node {
             chunk: config.chunk(),
             stripe: config.stripe(),
         };
-        Node::directory(0o755, 0, layout)
+        Node::new(0o755, 0, NodePart::Dir { layout })
     }
 
-    /// A directory of owner and group 0, with the stamp as each of its times.
-    pub fn directory(mode: u16, stamp: u64, layout: DefaultLayout) -> Node
-        ensures { result ≡ directory_of mode stamp layout }
+    /// A node of owner and group 0, with the stamp as each of its times.
+    pub fn new(mode: u16, stamp: u64, part: NodePart) -> Node
+        ensures { result ≡ node_with mode stamp part }
     {
         Node {
             mode,
@@ -61,7 +86,22 @@ impl Node {
             atime: stamp,
             mtime: stamp,
             ctime: stamp,
-            part: NodePart::Dir { layout },
+            part,
+        }
+    }
+
+    /// The node with what is given set, and the stamp as its change time.
+    pub fn changed(self, changes: Changes, stamp: u64) -> Node
+        ensures { result ≡ changed changes stamp self }
+    {
+        Node {
+            mode: changes.mode.unwrap_or(self.mode),
+            owner: changes.owner.unwrap_or(self.owner),
+            group: changes.group.unwrap_or(self.group),
+            atime: changes.atime.unwrap_or(self.atime),
+            mtime: changes.mtime.unwrap_or(self.mtime),
+            ctime: stamp,
+            part: self.part,
         }
     }
 }

@@ -17,7 +17,7 @@ pub struct Tree {
     pub(crate) nodes: ByNumber<Node>,
     pub(crate) entries: ByName<InodeId>,
     writers: BySession<()>,
-    kept: ByClient<KeptReply>,
+    pub(crate) kept: ByClient<KeptReply>,
     doomed: ByNumber<Doom>,
     pub(crate) next: ByNumber<u32>,
 }

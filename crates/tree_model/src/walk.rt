@@ -1,5 +1,5 @@
 ghost use Rattle.std.specs.Prelude.{◌≡◌};
-ghost use Rattle.tree_model.specs.Calls.{found_of};
+ghost use Rattle.tree_model.specs.Finding.{found_of};
 ghost use Rattle.tree_model.specs.Walk.{ends_at, at_file, is_last_of_parent, is_last_unfollowed};
 
 use crate::names::Names;

@@ -28,7 +28,7 @@ pub enum Move {
 }
 
 /// The path that a link stands for.
-fn path_of(alloc: Global, target: &Text) -> Result<Result<Path, Code>, Memory>
+pub(crate) fn path_of(alloc: Global, target: &Text) -> Result<Result<Path, Code>, Memory>
     ensures { IfOk result (λ path. path ≡ path_of target.now) }
 {
     match Path::read(alloc, target.as_slice()) {

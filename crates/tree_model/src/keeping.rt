@@ -1,0 +1,113 @@
+ghost use Rattle.std.specs.Prelude.{◌≡◌, ◌<◌, IsSome, IfOk, OnOk, OnErr};
+ghost use Rattle.std.specs.FinMap.{get};
+ghost use Rattle.fs_base.specs.declared.reply.Reply.TheVariants.{Done, Made};
+ghost use Rattle.tree_model.specs.Calls.{keeps};
+ghost use Rattle.tree_model.specs.Making.{added, altered, earlier_reply};
+
+use crate::kept::KeptReply;
+use crate::plan::Child;
+use crate::setattr::change_node;
+use crate::tree::Tree;
+use fs_base::{Changes, Code, Memory, Reply, Request};
+use std::alloc::Global;
+
+impl Tree {
+    /// The reply to a number that came before, or is older than one that did.
+    pub(crate) fn earlier_reply(
+        &self,
+        alloc: Global,
+        request: &Request,
+    ) -> Result<Option<Reply>, Memory>
+        ensures { IfOk result (λ reply. reply ≡ earlier_reply request.now.number (get self.now.tree.kept request.now.client.0)) }
+    {
+        let Some(kept) = self.kept.get(request.client.0) else {
+            return Ok(None);
+        };
+        if kept.number == request.number {
+            return Ok(Some(kept.reply.try_clone(alloc)?));
+        }
+        if request.number < kept.number {
+            return Ok(Some(Reply::Refused(Code::Stale(kept.number))));
+        }
+        Ok(None)
+    }
+
+    /// Puts a child in, all or nothing.
+    #[tactic(auto, using(crate::proofs::Undo::there_by_id, crate::proofs::Undo::undone_by_id))]
+    fn add(&mut self, server: u8, child: Child) -> Result<(), Memory>
+        requires { child.number < 4294967295 }
+        ensures ok { OnOk result (self.new.tree ≡ added self.old.tree server child) }
+        ensures config { self.new.config ≡ self.old.config }
+        ensures err { OnErr result (self.new ≡ self.old) }
+    {
+        let Child {
+            key,
+            number,
+            id,
+            node,
+        } = child;
+        let server = u64::from(server);
+        let next = self.next.insert(server, number + 1)?;
+        let was = match self.nodes.insert(id.get(), node) {
+            Ok(before) => before,
+            Err(e) => {
+                self.next.put_back(server, next);
+                return Err(e);
+            }
+        };
+        match self.entries.insert(key, id) {
+            Ok(_) => Ok(()),
+            Err(e) => {
+                self.nodes.put_back(id.get(), was);
+                self.next.put_back(server, next);
+                Err(e)
+            }
+        }
+    }
+
+    /// Puts a child and the reply in, all or nothing.
+    #[tactic(auto, using(crate::proofs::Undo::there_by_id, crate::proofs::Undo::undone_by_id))]
+    pub(crate) fn add_kept(&mut self, request: &Request, child: Child) -> Result<Reply, Memory>
+        requires { child.number < 4294967295 }
+        ensures ok { OnOk result (self.new.tree ≡ keeps (added self.old.tree request.now.server child) request.now (Made child.id)) }
+        ensures reply { IfOk result (λ reply. reply ≡ Made child.id) }
+        ensures config { self.new.config ≡ self.old.config }
+        ensures err { OnErr result (self.new ≡ self.old) }
+    {
+        let id = child.id;
+        let kept = KeptReply {
+            number: request.number,
+            reply: Reply::Made(id),
+        };
+        let before = self.kept.insert(request.client.0, kept)?;
+        match self.add(request.server, child) {
+            Ok(()) => Ok(Reply::Made(id)),
+            Err(e) => {
+                self.kept.put_back(request.client.0, before);
+                Err(e)
+            }
+        }
+    }
+
+    /// Changes the node of an id and puts the reply in, all or nothing.
+    pub(crate) fn change_kept(
+        &mut self,
+        request: &Request,
+        id: u64,
+        changes: Changes,
+    ) -> Result<Reply, Memory>
+        requires { IsSome (get self.old.tree.nodes id) }
+        ensures ok { OnOk result (self.new.tree ≡ keeps (altered self.old.tree id changes request.now.stamp) request.now Done) }
+        ensures reply { IfOk result (λ reply. reply ≡ Done) }
+        ensures config { self.new.config ≡ self.old.config }
+        ensures err { OnErr result (self.new ≡ self.old) }
+    {
+        let kept = KeptReply {
+            number: request.number,
+            reply: Reply::Done,
+        };
+        self.kept.insert(request.client.0, kept)?;
+        change_node(&mut self.nodes, id, changes, request.stamp);
+        Ok(Reply::Done)
+    }
+}
