@@ -9,7 +9,7 @@ use fs_base::{Code, InodeId, Kind, Memory, Name, Path, PathError, Place, Text};
 use inode_record::InodePart;
 use std::alloc::Global;
 use thiserror::Error;
-use tree_model::{Names, WalkEnd};
+use tree_model::{Names, WalkEnd, path_of};
 use txn_task::{Ask, Txn, Want, want_dent, want_inode};
 
 /// Where a walk has come: an ask, its end, or why it goes no further.
@@ -106,18 +106,6 @@ fn start_of(path: &Path, here: InodeId) -> InodeId
     ensures { result ≡ (if path.now.absolute then 0 else here) }
 {
     if path.absolute { InodeId::root() } else { here }
-}
-
-/// The path that a link stands for.
-fn path_of(alloc: Global, target: &Text) -> Result<Result<Path, Code>, Memory>
-    ensures { IfOk result (λ path. path ≡ path_of target.now) }
-{
-    match Path::read(alloc, target.as_slice()) {
-        Ok(path) => Ok(Ok(path)),
-        Err(PathError::BadPath) => Ok(Err(Code::BadPath)),
-        Err(PathError::BadName) => Ok(Err(Code::BadName)),
-        Err(PathError::Memory) => Err(Memory),
-    }
 }
 
 impl Walk {

@@ -28,3 +28,4 @@ pub use new_node::{NewNode, NewPart, first_hint};
 pub use node::{Node, NodePart};
 pub use tree::{Tree, TreeParts};
 pub use walk::{WalkEnd, Walked};
+pub use walking::path_of;

@@ -27,8 +27,8 @@ pub enum Move {
     Followed,
 }
 
-/// The path that a link stands for.
-pub(crate) fn path_of(alloc: Global, target: &Text) -> Result<Result<Path, Code>, Memory>
+/// The path that a text stands for, as that of a link, or why it is none.
+pub fn path_of(alloc: Global, target: &Text) -> Result<Result<Path, Code>, Memory>
     ensures { IfOk result (λ path. path ≡ path_of target.now) }
 {
     match Path::read(alloc, target.as_slice()) {
