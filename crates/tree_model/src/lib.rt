@@ -24,7 +24,7 @@ pub use kept::{Doom, KeptReply};
 pub use make::is_layout;
 pub use maps::{ByClient, ByName, ByNumber, BySession};
 pub use names::Names;
-pub use new_node::{NewNode, NewPart, first_hint};
+pub use new_node::{NewNode, NewPart, first_hint, layout_at};
 pub use node::{Node, NodePart};
 pub use tree::{Tree, TreeParts};
 pub use walk::{WalkEnd, Walked};

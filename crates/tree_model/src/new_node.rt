@@ -79,7 +79,7 @@ impl NewPart {
 }
 
 /// How a file of this id lies, whether or not the configuration admits the chunk and stripe.
-fn layout_at(config: &Config, id: InodeId, given: DefaultLayout) -> Layout
+pub fn layout_at(config: &Config, id: InodeId, given: DefaultLayout) -> Layout
     ensures { result ≡ layout_at config.now id given }
 {
     Layout {
