@@ -1,5 +1,5 @@
 -- What a walk under way may ask for lies in what the walk looks at from its start.
-use Rattle.std.proofs.Common.{◌≡◌, ◌⊎◌, List, [], ◌∷◌, ◌++◌, sym, subst, inl, inr}
+use Rattle.std.proofs.Common.{◌⊎◌, List, [], ◌∷◌, ◌++◌, sym, subst, inl, inr}
 use Rattle.conflict_sets.specs.declared.sets.ReadSet.{ReadSet}
 use Rattle.fs_base.specs.Config.{Settings}
 use Rattle.row_tree.specs.TreeOf.{tree_of}

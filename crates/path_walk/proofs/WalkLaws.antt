@@ -1,6 +1,6 @@
 -- What each step of a walk comes to.
-use Rattle.std.proofs.Common.{◌≡◌, ◌≢◌, ℕ, zero, suc, ◌+◌, Bool, true, false, cond, List, [], ◌∷◌, ◌++◌, refl, sym, ap, subst, ◌∙◌, inl, inr, arith}
-use Rattle.std.specs.Prelude.{Option, Some, None, Result, Ok, Err, IfOk, OnOk, drop}
+use Rattle.std.proofs.Common.{◌≡◌, ◌≢◌, ℕ, zero, suc, ◌+◌, true, false, cond, List, [], ◌∷◌, ◌++◌, refl, sym, ap, subst, ◌∙◌, inl, inr, arith}
+use Rattle.std.specs.Prelude.{Some, None, Result, Ok, Err, IfOk, OnOk, drop}
 use Rattle.std.specs.FinMap.{get}
 use Rattle.conflict_sets.specs.declared.sets.ReadSet.{ReadSet}
 use Rattle.fs_base.specs.Config.{Settings}
@@ -19,18 +19,18 @@ use Rattle.row_tree.specs.TypedRows.{TypedRows, kind_of}
 use Rattle.row_tree.specs.WellFormed.{IsWellFormed}
 use Rattle.row_tree.proofs.Telling as telling
 use Rattle.tree_model.specs.declared.walk.Walked.{Walked}
-use Rattle.tree_model.specs.declared.walk.Walked.TheVariants.{At, AtParent, Stopped}
-use Rattle.tree_model.specs.Maps.{is_end}
+use Rattle.tree_model.specs.declared.walk.Walked.TheVariants.{At, Stopped}
 use Rattle.tree_model.specs.Tree.{Tree}
-use Rattle.tree_model.specs.Walk.{Visit, Inode, Entry, Trip, stay, visiting, ends_at, at_file, is_last_of_parent, is_last_unfollowed, on_target, walk, from_base}
+use Rattle.tree_model.specs.Walk.{Visit, Inode, Entry, Trip, stay, visiting, at_file, is_last_of_parent, is_last_unfollowed, on_target, walk, from_base}
 use Rattle.tree_model.specs.Walking.{follow_of}
 use Rattle.txn_task.specs.Agreeing.{Agrees}
 use Rattle.path_walk.specs.declared.walk.Move.{Move}
 use Rattle.path_walk.specs.declared.walk.Move.TheVariants.{Stop, Down, Followed}
 use Rattle.path_walk.specs.declared.walk.Walk.{Walk}
 use Rattle.path_walk.specs.declared.walk.WalkStep.{WalkStep}
+use Rattle.path_walk.specs.declared.walk.WalkStep.TheVariants as steps
 use Rattle.path_walk.specs.Areas.{IsArea, OneKey, walked_areas}
-use Rattle.path_walk.specs.Walks.{trip_of, outcome_of, after_visits, LooksAt, KeepsTrip, HasOutcome, IsWalkStep, IsMove, IsAtLink, IsOnPath, IsFollowed}
+use Rattle.path_walk.specs.Walks.{trip_of, outcome_of, after_visits, LooksAt, KeepsTrip, HasOutcome, IsWalkStep, IsEnd, IsMove, IsAtLink, IsFollowed}
 
 pub keeps_self : (w : Walk) (reads : ReadSet) → KeepsTrip w w reads
 keeps_self w reads C S good agrees = ([], refl)
@@ -60,6 +60,14 @@ same_end w new reads keeps C S good agrees =
 pub ends_before : (w new : Walk) (reads : ReadSet) → KeepsTrip w new reads → (end : Walked) → HasOutcome new reads end → HasOutcome w reads end
 ends_before w new reads keeps end has C S good agrees = sym (same_end w new reads keeps C S good agrees) ∙ has C S good agrees
 
+-- an answer that says where the walk ends
+pub end_step : (w : Walk) (reads : ReadSet) (end : Walked) → HasOutcome w reads end → (step : WalkStep) → IsEnd step end → IsWalkStep step w reads
+end_step w reads end has (steps.Ask ask) is = absurd is
+end_step w reads end has (steps.At id kind) is = subst (HasOutcome w reads) is has
+end_step w reads end has (steps.Parent id name) is = subst (HasOutcome w reads) is has
+end_step w reads end has (steps.NoName id) is = subst (HasOutcome w reads) is has
+end_step w reads end has (steps.Refused code) is = subst (HasOutcome w reads) is has
+
 -- ---- past the base
 
 abbrev end_of : Trip → Walked
@@ -75,32 +83,17 @@ past_base w T base = ap (λ b. cond b (visiting (Inode w.here) (from_base (get T
 trip_at : (w : Walk) (T : Tree) (name : List ℕ) (tail : List (List ℕ)) → w.at_base ≡ false → w.rest ≡ name ∷ tail → trip_of w T ≡ walk w.links T w.end (name ∷ tail) w.here
 trip_at w T name tail base rest = past_base w T base ∙ ap (λ names. walk w.links T w.end names w.here) rest
 
-pub ends_here : (w : Walk) (reads : ReadSet) → w.at_base ≡ false → w.rest ≡ [] → HasOutcome w reads (ends_at w.end w.here)
-ends_here w reads base rest C S good agrees =
-    ap end_of (past_base w (tree_of S) base ∙ ap (λ names. walk w.links (tree_of S) w.end names w.here) rest ∙ telling.walk_is w.links (tree_of S) w.end [] w.here)
-
 module _ (w : Walk) (reads : ReadSet) (name : List ℕ) (tail : List (List ℕ)) (base : w.at_base ≡ false) (rest : w.rest ≡ name ∷ tail) where
-  pub parent_comes : is_last_of_parent w.end tail ≡ true → HasOutcome w reads (AtParent w.here name)
-  parent_comes last C S good agrees = ap end_of (trip_at w (tree_of S) name tail base rest ∙ telling.walk_parent C S good w.links w.end w.here name tail last)
-
   module _ (more : is_last_of_parent w.end tail ≡ false) where
-    pub looks_at_name : LooksAt w reads (keys.Dent w.here name)
-    looks_at_name C S good agrees =
-        let looks = telling.walk_reads C S good w.links w.end w.here name tail more in
-        subst (λ (x : Trip). IsArea (OneKey (keys.Dent w.here name)) (walked_areas x)) (sym (trip_at w (tree_of S) name tail base rest ∙ looks.1)) (inl refl)
-
     pub absent_comes : ((S : TypedRows) → Agrees S reads → get S.dents (w.here, name) ≡ None) → HasOutcome w reads (Stopped NotFound)
     absent_comes none C S good agrees = ap end_of (trip_at w (tree_of S) name tail base rest ∙ telling.walk_absent C S good w.links w.end w.here name tail more (none S agrees))
 
     module _ (e : DentRow) (is : (S : TypedRows) → Agrees S reads → get S.dents (w.here, name) ≡ Some e) where
-      pub file_comes : e.kind ≡ kinds.File → HasOutcome w reads (at_file e.inode tail)
+      file_comes : e.kind ≡ kinds.File → HasOutcome w reads (at_file e.inode tail)
       file_comes file C S good agrees = ap end_of (trip_at w (tree_of S) name tail base rest ∙ telling.walk_file C S good w.links w.end w.here name tail more e (is S agrees) file)
 
-      pub last_file_comes : e.kind ≡ kinds.File → is_end tail ≡ true → HasOutcome w reads (At e.inode kinds.File)
-      last_file_comes file last C S good agrees = file_comes file C S good agrees ∙ ap (λ b. cond b (At e.inode kinds.File) (Stopped NotDir)) last
-
-      pub behind_file_comes : e.kind ≡ kinds.File → is_end tail ≡ false → HasOutcome w reads (Stopped NotDir)
-      behind_file_comes file last C S good agrees = file_comes file C S good agrees ∙ ap (λ b. cond b (At e.inode kinds.File) (Stopped NotDir)) last
+      pub file_step : e.kind ≡ kinds.File → (step : WalkStep) → IsEnd step (at_file e.inode tail) → IsWalkStep step w reads
+      file_step file step end = end_step w reads (at_file e.inode tail) (file_comes file) step end
 
       pub dir_comes : e.kind ≡ kinds.Dir → (new : Walk) → new.at_base ≡ false → new.links ≡ w.links → new.end ≡ w.end → new.rest ≡ tail → new.here ≡ e.inode → KeepsTrip w new reads
       dir_comes dir new base' links end rest' here C S good agrees = (
@@ -115,10 +108,6 @@ module _ (w : Walk) (reads : ReadSet) (name : List ℕ) (tail : List (List ℕ))
       link_stays link at C S good agrees =
           let comes = telling.walk_some_link C S good w.links w.end w.here name tail more e (is S agrees) link in
           ap end_of (trip_at w (tree_of S) name tail base rest ∙ comes.1) ∙ ap (λ b. end_of (cond b (stay (At e.inode kinds.Link)) (follow_of w.links (tree_of S) w.end e.inode w.here comes.0 tail))) at
-
-      -- a link that is followed
-      pub at_link_is : e.kind ≡ kinds.Link → is_last_unfollowed w.end tail ≡ false → IsAtLink w reads e.inode
-      at_link_is link followed = record { name = name; tail = tail; rest = rest; more = more; followed = followed; entry = λ S agrees. is S agrees ∙ ap (λ kind. Some (record { inode = e.inode; kind = kind })) link }
 
 -- ---- behind a link
 

@@ -82,6 +82,14 @@ walk_refusal errors.Memory = None
 
 -- ---- what one name of a walk comes to
 
+-- the answer that says that a walk ends so
+abbrev pub IsEnd : WalkStep → Walked → Type 0
+IsEnd (steps.Ask ask) end = ⊥
+IsEnd (steps.At id kind) end = end ≡ walked.At id kind
+IsEnd (steps.Parent id name) end = end ≡ walked.AtParent id name
+IsEnd (steps.NoName id) end = end ≡ walked.NoName id
+IsEnd (steps.Refused code) end = end ≡ walked.Stopped code
+
 abbrev pub IsMove : Move → Walk → Walk → ReadSet → Type 0
 IsMove (Stop step) old new reads = IsWalkStep step new reads
 IsMove Down old new reads = (length new.rest + 1 ≡ length old.rest) × (new.links ≡ old.links)

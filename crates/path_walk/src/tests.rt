@@ -74,12 +74,12 @@ fn link(alloc: Global, id: u8, target: &[u8]) -> Result<Row, Memory> {
     inode(alloc, id, InodePart::Link { target })
 }
 
-fn entry(alloc: Global, dir: u8, name: &[u8], id: u8, kind: Kind) -> Result<Row, Fail> {
+fn entry(alloc: Global, dir: u8, name: u8, id: u8, kind: Kind) -> Result<Row, Fail> {
     let row = DentRow {
         inode: InodeId::new(u64::from(id)),
         kind,
     };
-    let name = Name::read(alloc, name)?;
+    let name = Name::read(alloc, &[name])?;
     let key = Key::Dent(InodeId::new(u64::from(dir)), name);
     Ok(Row {
         key: Text::from_vec(key.write(alloc)?),
@@ -87,36 +87,40 @@ fn entry(alloc: Global, dir: u8, name: &[u8], id: u8, kind: Kind) -> Result<Row,
     })
 }
 
-/// Two directories `x`, at the root and in `d`; a file `f` at the root; in `d` links to `x`, to `/x` and to `/d/x`.
+/// By directory and name, what an entry leads to.
+const ENTRIES: [(u8, u8, u8, Kind); 7] = [
+    (0, b'd', 16, Kind::Dir),
+    (0, b'x', 32, Kind::Dir),
+    (16, b'x', 48, Kind::Dir),
+    (0, b'f', 64, Kind::File),
+    (16, b'r', 80, Kind::Link),
+    (16, b'a', 96, Kind::Link),
+    (16, b'b', 112, Kind::Link),
+];
+
+/// By id, the target of a link.
+const LINKS: [(u8, &[u8]); 3] = [(80, b"x"), (96, b"/x"), (112, b"/d/x")];
+
 fn rows(alloc: Global) -> Result<Vec<Row>, Fail> {
     let mut rows = Vec::new(alloc);
     rows.push(directory(alloc, 16)?)?;
-    rows.push(entry(alloc, 0, b"d", 16, Kind::Dir)?)?;
-    rows.push(entry(alloc, 0, b"x", 32, Kind::Dir)?)?;
-    rows.push(entry(alloc, 16, b"x", 48, Kind::Dir)?)?;
-    rows.push(entry(alloc, 0, b"f", 64, Kind::File)?)?;
-    links(alloc, &mut rows)?;
+    for (dir, name, id, kind) in ENTRIES {
+        rows.push(entry(alloc, dir, name, id, kind)?)?;
+    }
+    for (id, target) in LINKS {
+        rows.push(link(alloc, id, target)?)?;
+    }
     Ok(rows)
-}
-
-fn links(alloc: Global, rows: &mut Vec<Row>) -> Result<(), Fail> {
-    rows.push(entry(alloc, 16, b"r", 80, Kind::Link)?)?;
-    rows.push(link(alloc, 80, b"x")?)?;
-    rows.push(entry(alloc, 16, b"a", 96, Kind::Link)?)?;
-    rows.push(link(alloc, 96, b"/x")?)?;
-    rows.push(entry(alloc, 16, b"b", 112, Kind::Link)?)?;
-    rows.push(link(alloc, 112, b"/d/x")?)?;
-    Ok(())
 }
 
 /// At the root eleven links, `a` to `k`, each to the next one, and the last one to the directory `l`.
 fn chain(alloc: Global) -> Result<Vec<Row>, Fail> {
     let mut rows = Vec::new(alloc);
     for letter in b'a'..b'l' {
-        rows.push(entry(alloc, 0, &[letter], letter, Kind::Link)?)?;
+        rows.push(entry(alloc, 0, letter, letter, Kind::Link)?)?;
         rows.push(link(alloc, letter, &[letter + 1])?)?;
     }
-    rows.push(entry(alloc, 0, b"l", b'l', Kind::Dir)?)?;
+    rows.push(entry(alloc, 0, b'l', b'l', Kind::Dir)?)?;
     Ok(rows)
 }
 
@@ -276,15 +280,16 @@ fn the_same_is_asked_again(rt: HostRuntime) -> Result<(), Fail> {
     let alloc = rt.alloc();
     let txn = Txn::new(alloc);
     let mut walk = walk(alloc, 0, b"d", WalkEnd::Follow)?;
-    assert!(rt; asks_for(&walk.next(alloc, &txn)?, b'd'));
-    assert!(rt; asks_for(&walk.next(alloc, &txn)?, b'd'));
+    assert!(rt; asks(alloc, &mut walk, &txn)? == Some(b'd'));
+    assert!(rt; asks(alloc, &mut walk, &txn)? == Some(b'd'));
     Ok(())
 }
 
-fn asks_for(step: &WalkStep, name: u8) -> bool {
-    match step {
-        WalkStep::Ask(Ask::Get(Key::Dent(_, asked))) => first(asked.bytes()) == name,
-        _ => false,
+/// The name whose entry a walk asks for.
+fn asks(alloc: Global, walk: &mut Walk, txn: &Txn) -> Result<Option<u8>, Memory> {
+    match walk.next(alloc, txn)? {
+        WalkStep::Ask(Ask::Get(Key::Dent(_, name))) => Ok(Some(first(name.bytes()))),
+        _ => Ok(None),
     }
 }
 

@@ -1,8 +1,8 @@
 ghost use Rattle.std.specs.Prelude.{◌≡◌, ◌≢◌, ◌+◌, false, Err, drop, IfOk, OnOk, IfErr, IfSome, MatchOption, if◌then◌else◌};
 ghost use Rattle.fs_base.specs.Paths.{path_of};
 ghost use Rattle.tree_model.specs.Tree.{Tree};
-ghost use Rattle.tree_model.specs.Walk.{is_last_of_parent, is_last_unfollowed, travel};
-ghost use Rattle.path_walk.specs.Walks.{IsStart, trip_of, KeepsTrip, IsWalkStep, IsMove, IsAtLink, IsFollowed, walk_refusal};
+ghost use Rattle.tree_model.specs.Walk.{at_file, is_last_of_parent, is_last_unfollowed, travel};
+ghost use Rattle.path_walk.specs.Walks.{IsStart, trip_of, KeepsTrip, IsWalkStep, IsEnd, IsMove, IsAtLink, IsFollowed, walk_refusal};
 ghost use Rattle.path_walk.specs.declared.walk.WalkError.TheVariants as errors;
 
 use fs_base::{Code, InodeId, Kind, Memory, Name, Path, PathError, Place, Text};
@@ -87,6 +87,17 @@ fn stops_at_link(end: WalkEnd, rest: &Names) -> bool
         WalkEnd::NoFollow => rest.is_last(),
         WalkEnd::Follow => false,
         WalkEnd::Parent => false,
+    }
+}
+
+/// What a walk comes to where its next name leads to a file.
+fn at_file(id: InodeId, rest: &Names) -> WalkStep
+    ensures { IsEnd result (at_file id (drop 1 rest.now)) }
+{
+    if rest.is_last() {
+        WalkStep::At(id, Kind::File)
+    } else {
+        WalkStep::Refused(Code::NotDir)
     }
 }
 
@@ -223,12 +234,7 @@ impl Walk {
                     self.rest.skip();
                     Ok(Move::Down)
                 }
-                Kind::File => {
-                    if self.rest.is_last() {
-                        return Ok(Move::Stop(WalkStep::At(entry.inode, Kind::File)));
-                    }
-                    Ok(Move::Stop(WalkStep::Refused(Code::NotDir)))
-                }
+                Kind::File => Ok(Move::Stop(at_file(entry.inode, &self.rest))),
                 Kind::Link => {
                     if stops_at_link(self.end, &self.rest) {
                         return Ok(Move::Stop(WalkStep::At(entry.inode, Kind::Link)));

@@ -1,4 +1,4 @@
-use Rattle.std.proofs.Common.{◌≡◌, ◌≤◌, false, length}
+use Rattle.std.proofs.Common.{◌≡◌, false, length}
 use Rattle.path_walk.specs.Walks.{KeepsTrip}
 use Rattle.path_walk.proofs.walk.Walk.run.Given as goal
 

@@ -1,5 +1,5 @@
 use Rattle.std.proofs.Common.{refl, sym, ◌∙◌, drop}
-use Rattle.path_walk.proofs.WalkLaws.{absent_comes, dir_comes, last_file_comes, behind_file_comes, link_stays}
+use Rattle.path_walk.proofs.WalkLaws.{absent_comes, dir_comes, file_step, link_stays}
 use Rattle.path_walk.proofs.walk.Walk.step.Goals as goal
 
 pub returns-in-Absent-clause-moved : goal.returns-in-Absent-clause-moved
@@ -16,19 +16,12 @@ returns-in-Dir-clause-keeps c =
     let want = rw c.in-There.is at c.in_ok-key.ensures in
     dir_comes c.args.self.now c.args.txn.now.reads c.in-Some.name.now tail c.requires c.in-Some.ensures more c.in-There.entry want c.in-Dir.is _ c.requires refl refl c.skip.ensures refl
 
-pub returns-then-is_last-clause-moved : goal.returns-then-is_last-clause-moved
-returns-then-is_last-clause-moved c =
+pub returns-in-File-clause-moved : goal.returns-in-File-clause-moved
+returns-in-File-clause-moved c =
     let tail = drop 1 c.args.self.now.rest in
     let more = sym c.stops_at_parent.ensures ∙ c.if-stops_at_parent.false in
     let want = rw c.in-There.is at c.in_ok-key.ensures in
-    last_file_comes c.args.self.now c.args.txn.now.reads c.in-Some.name.now tail c.requires c.in-Some.ensures more c.in-There.entry want c.in-File.is (sym c.is_last.ensures ∙ c.if-is_last.true)
-
-pub returns-else-is_last-clause-moved : goal.returns-else-is_last-clause-moved
-returns-else-is_last-clause-moved c =
-    let tail = drop 1 c.args.self.now.rest in
-    let more = sym c.stops_at_parent.ensures ∙ c.if-stops_at_parent.false in
-    let want = rw c.in-There.is at c.in_ok-key.ensures in
-    behind_file_comes c.args.self.now c.args.txn.now.reads c.in-Some.name.now tail c.requires c.in-Some.ensures more c.in-There.entry want c.in-File.is (sym c.is_last.ensures ∙ c.if-is_last.false)
+    file_step c.args.self.now c.args.txn.now.reads c.in-Some.name.now tail c.requires c.in-Some.ensures more c.in-There.entry want c.in-File.is c.at_file.result c.at_file.ensures
 
 pub returns-then-stops_at_link-clause-moved : goal.returns-then-stops_at_link-clause-moved
 returns-then-stops_at_link-clause-moved c =
