@@ -1,5 +1,4 @@
 ghost use Rattle.std.specs.Prelude.{◌≡◌, ◌^◌, ◌<◌, ◌≤◌, [], Some, unwrap_or, IfOk, OnOk, IsTrue};
-ghost use Rattle.fs_base.specs.Config.{layout_at};
 ghost use Rattle.fs_base.specs.Names.{is_name};
 ghost use Rattle.inode_record.specs.Inode.{spelled_inode};
 ghost use Rattle.key_schema.specs.Keys.{spelled_key};
@@ -16,13 +15,13 @@ ghost use Rattle.op_create.specs.NewRows.{MayMake, HasEnded, row_part, new_row, 
 
 use crate::task::CreateTask;
 use fs_base::{
-    Code, Config, DefaultLayout, InodeId, Items, Kind, Layout, Limit, Memory, Name, Reply,
+    Code, Config, DefaultLayout, InodeId, Items, Kind, Limit, Memory, Name, Reply,
 };
 use inode_record::{InodePart, InodeRow};
 use key_schema::Key;
 use row_records::{AllocRow, DentRow};
 use std::alloc::Global;
-use tree_model::{NewPart, first_hint};
+use tree_model::{NewPart, first_hint, layout_at};
 use txn_task::{OpStep, Txn};
 
 fn kind_of(part: &InodePart) -> Kind
@@ -44,18 +43,6 @@ fn in_range(config: &Config, dir: InodeId, name: &Name)
     let _chains = config.chains();
     let _dir = dir.get();
     let _name = name.bytes();
-}
-
-/// How a file of this id lies, whether or not the configuration admits the chunk and stripe.
-fn layout_at(config: &Config, id: InodeId, given: DefaultLayout) -> Layout
-    ensures { result ≡ layout_at config.now id given }
-{
-    Layout {
-        chunk: given.chunk,
-        stripe: given.stripe,
-        start: (id.get() % u64::from(config.chains())) as u16,
-        mix: id.get(),
-    }
 }
 
 /// What the row of the inode with this id has by its kind.

@@ -9,10 +9,10 @@ ghost use Rattle.path_walk.specs.Requests.{IsRequest};
 ghost use Rattle.op_create.specs.Beginning.{IsBegun, IsMade, node_fault, part_fault, refusal};
 ghost use Rattle.op_create.specs.Create.{IsCreateCall, IsReady, HasAsked, areas_of, effect_of};
 
-use fs_base::{Call, Code, Config, Memory, Path, PathError, Place, Request, Text};
+use fs_base::{Call, Code, Config, Memory, Place, Request, Text};
 use path_walk::{Walk, WalkError};
 use std::alloc::Global;
-use tree_model::{NewNode, NewPart, WalkEnd, is_layout};
+use tree_model::{NewNode, NewPart, WalkEnd, is_layout, path_of};
 
 /// How far a task has come.
 #[derive(Drop)]
@@ -37,11 +37,9 @@ pub struct CreateTask {
 fn target_fault(alloc: Global, target: &Text) -> Result<Option<Code>, Memory>
     ensures { IfOk result (λ fault. fault ≡ refusal (path_of target.now)) }
 {
-    match Path::read(alloc, target.as_slice()) {
+    match path_of(alloc, target)? {
         Ok(_) => Ok(None),
-        Err(PathError::BadPath) => Ok(Some(Code::BadPath)),
-        Err(PathError::BadName) => Ok(Some(Code::BadName)),
-        Err(PathError::Memory) => Err(Memory),
+        Err(code) => Ok(Some(code)),
     }
 }
 
