@@ -262,6 +262,8 @@ fn a_last_name_that_is_wanted_is_not_looked_up(rt: HostRuntime) -> Result<(), Fa
     let last = from(alloc, 0, b"/d/r", WalkEnd::Parent, b"DENT\0\0\0\0\0\0\0\0d")?;
     assert!(rt; last == Came::Parent(16, b'r'));
     assert!(rt; from(alloc, 0, b"/", WalkEnd::Parent, b"")? == Came::NoName(0));
+    // A base that isn't there isn't looked at for a name that is wanting.
+    assert!(rt; from(alloc, 99, b".", WalkEnd::Parent, b"")? == Came::NoName(99));
     Ok(())
 }
 

@@ -133,7 +133,7 @@ impl Walk {
         let here = start_of(path, base);
         Ok(Walk {
             end,
-            at_base: here.get() != 0,
+            at_base: end.looks_at_base(here, &rest),
             links: 10,
             here,
             rest,

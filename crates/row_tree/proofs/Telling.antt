@@ -18,7 +18,7 @@ use Rattle.tree_model.specs.declared.walk.WalkEnd.{WalkEnd}
 use Rattle.tree_model.specs.declared.walk.Walked.TheVariants.{AtParent, Stopped}
 use Rattle.tree_model.specs.Maps.{dent_cmp, session_cmp}
 use Rattle.tree_model.specs.Tree.{Tree, next_at}
-use Rattle.tree_model.specs.Walk.{Inode, Entry, Trip, Behind, stay, visiting, at_file, is_last_of_parent, at_link, at_part, at_node, at_entry, down, walk, if_dir, from_base, travel}
+use Rattle.tree_model.specs.Walk.{Inode, Entry, Trip, Behind, stay, visiting, at_file, is_last_of_parent, at_link, at_part, at_node, at_entry, down, walk, if_dir, from_base}
 use Rattle.tree_model.specs.Walking.{follow_of}
 use Rattle.tree_model.proofs.MapLaws.{get-map_values}
 use Rattle.row_tree.specs.TypedRows.{TypedRows, kind_of}
@@ -116,25 +116,6 @@ module _ (C : Settings) (S : TypedRows) (good : IsWellFormed C S) (left : ℕ) (
         (target.0, walk_link e is has.0 has.1 target.0 target.1)
 
 -- ---- where a walk starts
-
-module _ (T : Tree) (base : ℕ) (path : Path) (end : WalkEnd) where
-  abbrev from_here : Trip
-  from_here = visiting (Inode base) (from_base (get T.nodes base) (walk 10 T end path.names base))
-
-  pub travel_absolute : path.absolute ≡ true → travel T base path end ≡ walk 10 T end path.names 0
-  travel_absolute absolute = ap (λ b. cond b (walk 10 T end path.names 0) (cond (base == 0) (walk 10 T end path.names 0) from_here)) absolute
-
-  pub travel_base : path.absolute ≡ false → base ≢ 0 → travel T base path end ≡ visiting (Inode base) (from_base (get T.nodes base) (walk 10 T end path.names base))
-  travel_base relative not_root =
-      ap (λ b. cond b (walk 10 T end path.names 0) (cond (base == 0) (walk 10 T end path.names 0) from_here)) relative
-      ∙ ap (λ b. cond b (walk 10 T end path.names 0) from_here) (ne_eqb base 0 not_root)
-
-pub travel_root : (T : Tree) (path : Path) (end : WalkEnd) → travel T 0 path end ≡ walk 10 T end path.names 0
-travel_root T path end = by path.absolute
-  where
-    by : (b : Bool) → cond b (walk 10 T end path.names 0) (walk 10 T end path.names 0) ≡ walk 10 T end path.names 0
-    by true = refl
-    by false = refl
 
 module _ (S : TypedRows) (base : ℕ) (trip : Trip) where
   pub base_absent : get S.inodes base ≡ None → from_base (get (tree_of S).nodes base) trip ≡ stay (Stopped NotFound)

@@ -1,5 +1,5 @@
 -- The walk of a path over the tree: where it ends, and what it looks at.
-use Rattle.std.specs.Prelude.{ℕ, zero, suc, ◌==◌, Bool, true, false, if◌then◌else◌, List, [], ◌∷◌, ◌++◌, Option, Some, None, Result, Ok, Err}
+use Rattle.std.specs.Prelude.{ℕ, zero, suc, ◌==◌, ◌||◌, not, Bool, true, false, if◌then◌else◌, List, [], ◌∷◌, ◌++◌, Option, Some, None, Result, Ok, Err}
 use Rattle.std.specs.FinMap.{get}
 use Rattle.fs_base.specs.declared.code.Code.{Code}
 use Rattle.fs_base.specs.declared.code.Code.TheVariants.{NotFound, NotDir, LinkLoop}
@@ -102,12 +102,22 @@ abbrev pub from_base : Option Node → Trip → Trip
 from_base None trip = stay (Stopped NotFound)
 from_base (Some node) trip = if_dir node.part trip
 
--- a path that isn't absolute starts at a base, which is looked at unless it is the root
+-- a call that wants the directory of a last name, and a path that has no name
+abbrev pub lacks_name : WalkEnd → List (List ℕ) → Bool
+lacks_name Parent [] = true
+lacks_name _ _ = false
+
+-- a base besides the root is looked at, unless it is clear without it that there is no name
+abbrev pub looks_at_base : ℕ → WalkEnd → List (List ℕ) → Bool
+looks_at_base here end names = not (here == 0 || lacks_name end names)
+
+-- a path that isn't absolute starts at a base
 abbrev pub travel : Tree → ℕ → Path → WalkEnd → Trip
 travel T base path end =
-    if path.absolute
-    then walk 10 T end path.names 0
-    else (if base == 0 then walk 10 T end path.names 0 else visiting (Inode base) (from_base (get T.nodes base) (walk 10 T end path.names base)))
+    let here = if path.absolute then 0 else base in
+    if looks_at_base here end path.names
+    then visiting (Inode here) (from_base (get T.nodes here) (walk 10 T end path.names here))
+    else walk 10 T end path.names here
 
 abbrev pub resolve : Tree → ℕ → Path → WalkEnd → Walked
 resolve T base path end = (travel T base path end).end

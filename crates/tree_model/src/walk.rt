@@ -1,6 +1,6 @@
 ghost use Rattle.std.specs.Prelude.{◌≡◌};
 ghost use Rattle.tree_model.specs.Finding.{found_of};
-ghost use Rattle.tree_model.specs.Walk.{ends_at, at_file, is_last_of_parent, is_last_unfollowed};
+ghost use Rattle.tree_model.specs.Walk.{ends_at, at_file, is_last_of_parent, is_last_unfollowed, lacks_name, looks_at_base};
 
 use crate::names::Names;
 use fs_base::{Code, InodeId, Kind, Name, Reply};
@@ -39,6 +39,24 @@ impl WalkEnd {
             WalkEnd::NoFollow => Walked::At(here, Kind::Dir),
             WalkEnd::Parent => Walked::NoName(here),
         }
+    }
+
+    /// Whether a last name is wanted, and these names have none.
+    fn lacks_name(self, names: &Names) -> bool
+        ensures { result ≡ lacks_name self names.now }
+    {
+        match self {
+            WalkEnd::Follow => false,
+            WalkEnd::NoFollow => false,
+            WalkEnd::Parent => names.is_empty(),
+        }
+    }
+
+    /// Whether a walk of these names that starts here looks at the node here before anything else.
+    pub fn looks_at_base(self, here: InodeId, names: &Names) -> bool
+        ensures { result ≡ looks_at_base here self names.now }
+    {
+        !(here.get() == 0 || self.lacks_name(names))
     }
 
     /// Whether a walk ends before a name, with these names behind it.

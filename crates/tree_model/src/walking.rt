@@ -126,10 +126,11 @@ impl Tree {
         unreachable!()
     }
 
-    /// Where a path leads from a base, which counts only where the path isn't absolute.
+    /// Where a path leads from a base, which counts only where the path isn't absolute. It isn't looked at where a
+    /// last name is wanted and the path has none.
     ///
     /// At most ten links are followed.
-    #[tactic(auto, using(crate::proofs::WalkLaws::from_root, crate::proofs::WalkLaws::from_a_base))]
+    #[tactic(auto, using(crate::proofs::WalkLaws::from_here, crate::proofs::WalkLaws::from_a_base))]
     pub fn resolve(
         &self,
         alloc: Global,
@@ -142,7 +143,7 @@ impl Tree {
         let mut rest = Names::new(alloc);
         rest.push_all(alloc, &path.names)?;
         let here = start_of(path, base);
-        if here.get() != 0 {
+        if end.looks_at_base(here, &rest) {
             let Some(node) = self.node(here.get()) else {
                 return Ok(Walked::Stopped(Code::NotFound));
             };
