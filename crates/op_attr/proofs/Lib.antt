@@ -1,0 +1,5 @@
+pub mod BeginLaws
+pub mod ChangeLaws
+pub mod EndLaws
+pub mod Fitting
+pub mod ReadLaws

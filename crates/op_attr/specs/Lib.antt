@@ -1,0 +1,4 @@
+pub mod Attr
+pub mod Beginning
+pub mod Changing
+pub mod Ending

@@ -1,0 +1,121 @@
+ghost use Rattle.std.specs.Prelude.{◌≡◌, [], IfOk};
+ghost use Rattle.tree_model.specs.Calls.{effect};
+ghost use Rattle.tree_model.specs.Tree.{Tree};
+ghost use Rattle.path_walk.specs.Areas.{Area, IsArea};
+ghost use Rattle.path_walk.specs.Footprint.{call_areas};
+ghost use Rattle.path_walk.specs.Requests.{IsRequest};
+ghost use Rattle.op_attr.specs.Attr.{IsAttrCall, IsReady, HasAsked, areas_of, effect_of};
+ghost use Rattle.op_attr.specs.Beginning.{IsBegun, IsCallAt, end_of};
+
+use fs_base::{Call, Changes, Code, Config, InodeId, Memory, Place, Request};
+use path_walk::{Walk, WalkError};
+use std::alloc::Global;
+use tree_model::WalkEnd;
+
+/// What is done where the walk ends.
+#[derive(Clone, Copy, Debug, PartialEq, Eq)]
+pub enum AttrCall {
+    Lookup,
+    Stat,
+    List,
+    Readlink,
+    /// The stamp becomes the change time; it is below 2^53.
+    Setattr { stamp: u64, changes: Changes },
+}
+
+/// How far a task has come.
+#[derive(Drop)]
+pub enum Stage {
+    /// The place's text is no path.
+    Refused(Code),
+    /// On the way, or where it ends.
+    Walking(Walk),
+    /// The entries of a directory are read, page by page.
+    Listing(InodeId),
+}
+
+/// lookup, stat, list, readlink or setattr under way.
+#[derive(Drop)]
+pub struct AttrTask {
+    pub config: Config,
+    pub call: AttrCall,
+    pub stage: Stage,
+}
+
+/// Where the walk of a call's place ends.
+fn end_of(call: AttrCall) -> WalkEnd
+    ensures { result ≡ end_of call }
+{
+    match call {
+        AttrCall::Lookup => WalkEnd::NoFollow,
+        AttrCall::Stat => WalkEnd::Follow,
+        AttrCall::List => WalkEnd::Follow,
+        AttrCall::Readlink => WalkEnd::NoFollow,
+        AttrCall::Setattr { .. } => WalkEnd::Follow,
+    }
+}
+
+fn begin(alloc: Global, place: &Place, end: WalkEnd) -> Result<Stage, Memory>
+    ensures { IfOk result (IsBegun place.now end) }
+{
+    match Walk::new(alloc, place, end) {
+        Ok(walk) => Ok(Stage::Walking(walk)),
+        Err(WalkError::BadPath) => Ok(Stage::Refused(Code::BadPath)),
+        Err(WalkError::BadName) => Ok(Stage::Refused(Code::BadName)),
+        Err(WalkError::Memory) => Err(Memory),
+    }
+}
+
+impl AttrTask {
+    /// The task of a query by place, or of setattr. Nothing is asked for yet; a fault in the place's text is known.
+    pub fn new(alloc: Global, request: &Request, config: &Config) -> Result<AttrTask, Memory>
+        requires valid { IsRequest config.now request.now }
+        requires call { IsAttrCall request.now.call }
+        ensures config { IfOk result (λ task. task.config ≡ config.now) }
+        ensures effect { IfOk result (λ task. (T : Tree) → effect_of task T ≡ effect config.now T request.now) }
+        ensures areas { IfOk result (λ task. (T : Tree) (area : Area) → IsArea area (areas_of task T) → IsArea area (call_areas T request.now.server request.now.call)) }
+        ensures asked { IfOk result (λ task. HasAsked task []) }
+        ensures ready { IfOk result IsReady }
+    {
+        match &request.call {
+            Call::Lookup(place) => AttrTask::start(alloc, request, config, place, AttrCall::Lookup),
+            Call::Stat(place) => AttrTask::start(alloc, request, config, place, AttrCall::Stat),
+            Call::List(place) => AttrTask::start(alloc, request, config, place, AttrCall::List),
+            Call::Readlink(place) => {
+                AttrTask::start(alloc, request, config, place, AttrCall::Readlink)
+            }
+            Call::Setattr { place, changes } => {
+                let call = AttrCall::Setattr {
+                    stamp: request.stamp,
+                    changes: *changes,
+                };
+                AttrTask::start(alloc, request, config, place, call)
+            }
+            _ => unreachable!(),
+        }
+    }
+
+    /// The task of this call at this place.
+    fn start(
+        alloc: Global,
+        request: &Request,
+        config: &Config,
+        place: &Place,
+        call: AttrCall,
+    ) -> Result<AttrTask, Memory>
+        requires valid { IsRequest config.now request.now }
+        requires call { IsCallAt request.now.stamp request.now.call call place.now }
+        ensures config { IfOk result (λ task. task.config ≡ config.now) }
+        ensures effect { IfOk result (λ task. (T : Tree) → effect_of task T ≡ effect config.now T request.now) }
+        ensures areas { IfOk result (λ task. (T : Tree) (area : Area) → IsArea area (areas_of task T) → IsArea area (call_areas T request.now.server request.now.call)) }
+        ensures asked { IfOk result (λ task. HasAsked task []) }
+        ensures ready { IfOk result IsReady }
+    {
+        let stage = begin(alloc, place, end_of(call))?;
+        Ok(AttrTask {
+            config: *config,
+            call,
+            stage,
+        })
+    }
+}
