@@ -1,0 +1,150 @@
+ghost use Rattle.std.specs.Prelude.{◌≡◌, ◌≤◌, [], IfOk};
+ghost use Rattle.conflict_sets.specs.declared.sets.RangeRead.{RangeRead};
+ghost use Rattle.fs_base.specs.Paths.{path_of};
+ghost use Rattle.tree_model.specs.Calls.{effect};
+ghost use Rattle.tree_model.specs.Tree.{Tree};
+ghost use Rattle.path_walk.specs.Areas.{Area, IsArea};
+ghost use Rattle.path_walk.specs.Footprint.{call_areas};
+ghost use Rattle.path_walk.specs.Requests.{IsRequest};
+ghost use Rattle.op_create.specs.Beginning.{IsBegun, IsMade, node_fault, part_fault, refusal};
+ghost use Rattle.op_create.specs.Create.{IsCreateCall, IsReady, HasAsked, areas_of, effect_of};
+
+use fs_base::{Call, Code, Config, Memory, Path, PathError, Place, Request, Text};
+use path_walk::{Walk, WalkError};
+use std::alloc::Global;
+use tree_model::{NewNode, NewPart, WalkEnd, is_layout};
+
+/// How far a task has come.
+#[derive(Drop)]
+pub enum Stage {
+    /// The words of the call are refused.
+    Refused(Code),
+    /// On the way to the parent, or there.
+    Walking(Walk),
+}
+
+/// mkdir, create or symlink under way.
+#[derive(Drop)]
+pub struct CreateTask {
+    pub config: Config,
+    pub server: u8,
+    pub stamp: u64,
+    pub node: NewNode,
+    pub stage: Stage,
+}
+
+/// Why a link's target is no path.
+fn target_fault(alloc: Global, target: &Text) -> Result<Option<Code>, Memory>
+    ensures { IfOk result (λ fault. fault ≡ refusal (path_of target.now)) }
+{
+    match Path::read(alloc, target.as_slice()) {
+        Ok(_) => Ok(None),
+        Err(PathError::BadPath) => Ok(Some(Code::BadPath)),
+        Err(PathError::BadName) => Ok(Some(Code::BadName)),
+        Err(PathError::Memory) => Err(Memory),
+    }
+}
+
+fn part_fault(alloc: Global, part: &NewPart) -> Result<Option<Code>, Memory>
+    ensures { IfOk result (λ fault. fault ≡ part_fault part.now) }
+{
+    match part {
+        NewPart::Dir => Ok(None),
+        NewPart::File => Ok(None),
+        NewPart::Link(target) => target_fault(alloc, target),
+    }
+}
+
+/// Why the node can't be made, whatever the tree is.
+fn node_fault(alloc: Global, config: &Config, node: &NewNode) -> Result<Option<Code>, Memory>
+    ensures { IfOk result (λ fault. fault ≡ node_fault config.now node.now) }
+{
+    match part_fault(alloc, &node.part)? {
+        Some(code) => Ok(Some(code)),
+        None => {
+            if is_layout(config, node.layout) {
+                return Ok(None);
+            }
+            Ok(Some(Code::BadLayout))
+        }
+    }
+}
+
+fn begin(alloc: Global, config: &Config, place: &Place, node: &NewNode) -> Result<Stage, Memory>
+    ensures { IfOk result (IsBegun config.now place.now node.now) }
+{
+    let walk = match Walk::new(alloc, place, WalkEnd::Parent) {
+        Ok(walk) => walk,
+        Err(WalkError::BadPath) => return Ok(Stage::Refused(Code::BadPath)),
+        Err(WalkError::BadName) => return Ok(Stage::Refused(Code::BadName)),
+        Err(WalkError::Memory) => return Err(Memory),
+    };
+    match node_fault(alloc, config, node)? {
+        Some(code) => Ok(Stage::Refused(code)),
+        None => Ok(Stage::Walking(walk)),
+    }
+}
+
+/// A server is one of at most sixteen.
+fn few_servers(config: &Config)
+    ensures { config.now.servers ≤ 16 }
+{
+    let _servers = config.servers();
+}
+
+impl CreateTask {
+    /// The task of a call that makes a node. Nothing is asked for yet; a fault in the call's words is known.
+    pub fn new(alloc: Global, request: &Request, config: &Config) -> Result<CreateTask, Memory>
+        requires valid { IsRequest config.now request.now }
+        requires call { IsCreateCall request.now.call }
+        ensures config { IfOk result (λ task. task.config ≡ config.now) }
+        ensures effect { IfOk result (λ task. (T : Tree) → effect_of task T ≡ effect config.now T request.now) }
+        ensures areas { IfOk result (λ task. (T : Tree) (area : Area) → IsArea area (areas_of task T) → IsArea area (call_areas T request.now.server request.now.call)) }
+        ensures asked { IfOk result (λ task. HasAsked task []) }
+        ensures ready { IfOk result IsReady }
+    {
+        match &request.call {
+            Call::Mkdir {
+                place,
+                mode,
+                layout,
+            } => CreateTask::start(alloc, request, config, place, NewNode::dir(*mode, *layout)),
+            Call::Create {
+                place,
+                mode,
+                layout,
+            } => CreateTask::start(alloc, request, config, place, NewNode::file(*mode, *layout)),
+            Call::Symlink { place, target } => {
+                let node = NewNode::link(target.try_clone()?);
+                CreateTask::start(alloc, request, config, place, node)
+            }
+            _ => unreachable!(),
+        }
+    }
+
+    /// The task that makes this node at this place.
+    fn start(
+        alloc: Global,
+        request: &Request,
+        config: &Config,
+        place: &Place,
+        node: NewNode,
+    ) -> Result<CreateTask, Memory>
+        requires valid { IsRequest config.now request.now }
+        requires made { IsMade request.now.call place.now node }
+        ensures config { IfOk result (λ task. task.config ≡ config.now) }
+        ensures effect { IfOk result (λ task. (T : Tree) → effect_of task T ≡ effect config.now T request.now) }
+        ensures areas { IfOk result (λ task. (T : Tree) (area : Area) → IsArea area (areas_of task T) → IsArea area (call_areas T request.now.server request.now.call)) }
+        ensures ready { IfOk result IsReady }
+    {
+        few_servers(config);
+        let stage = begin(alloc, config, place, &node)?;
+        Ok(CreateTask {
+            config: *config,
+            server: request.server,
+            stamp: request.stamp,
+            node,
+            stage,
+        })
+    }
+}
