@@ -1,5 +1,7 @@
 pub mod Agreeing
+pub mod Copies
 pub mod Listing
 pub mod Transactions
+pub mod Tries
 pub mod Wanted
 pub mod Writes

@@ -13,6 +13,7 @@ use fs_base::{Items, Memory, Row, Text};
 use key_schema::Key;
 use std::alloc::Global;
 use std::marker::Model;
+use std::mem;
 
 /// What an attempt has read since it began, all at one version, and what it would write.
 #[derive(Drop)]
@@ -79,6 +80,43 @@ fn copy_rows(alloc: Global, rows: &[Row]) -> Result<Items<Row>, Memory>
     let mut copies = Items::new(alloc);
     for row in rows {
         copies.push(copy_row(row)?)?;
+    }
+    Ok(copies)
+}
+
+fn copy_keys(alloc: Global, keys: &[KeyRead]) -> Result<Items<KeyRead>, Memory>
+    ensures { IfOk result (λ copies. copies ≡ keys.now) }
+{
+    let mut copies = Items::new(alloc);
+    for read in keys {
+        let key = read.key.try_clone()?;
+        let value = copy_value(&read.value)?;
+        copies.push(KeyRead { key, value })?;
+    }
+    Ok(copies)
+}
+
+fn copy_range(alloc: Global, range: &RangeRead) -> Result<RangeRead, Memory>
+    ensures { IfOk result (λ copy. copy ≡ range.now) }
+{
+    let lo = range.lo.try_clone()?;
+    let hi = range.hi.try_clone()?;
+    let rows = copy_rows(alloc, range.rows.as_slice())?;
+    let limit = range.limit;
+    Ok(RangeRead {
+        lo,
+        hi,
+        limit,
+        rows,
+    })
+}
+
+fn copy_ranges(alloc: Global, ranges: &[RangeRead]) -> Result<Items<RangeRead>, Memory>
+    ensures { IfOk result (λ copies. copies ≡ ranges.now) }
+{
+    let mut copies = Items::new(alloc);
+    for range in ranges {
+        copies.push(copy_range(alloc, range)?)?;
     }
     Ok(copies)
 }
@@ -181,6 +219,26 @@ impl Txn {
         let key = Text::from_vec(key.write(alloc)?);
         let value = value.map(Items::from_vec);
         set_in(&mut self.writes, Write { key, value })
+    }
+
+    /// A copy of what was read.
+    pub fn copy_reads(&self, alloc: Global) -> Result<ReadSet, Memory>
+        ensures { IfOk result (λ reads. reads ≡ self.now.reads) }
+    {
+        let keys = copy_keys(alloc, self.reads.keys.as_slice())?;
+        let ranges = copy_ranges(alloc, self.reads.ranges.as_slice())?;
+        Ok(ReadSet { keys, ranges })
+    }
+
+    /// What is to be written; nothing is, from then on.
+    pub fn take_writes(&mut self, alloc: Global) -> WriteSet
+        ensures writes { result.writes ≡ self.old.writes }
+        ensures left { self.new ≡ record self.old { writes = [] } }
+    {
+        let writes = mem::replace(&mut self.writes, Vec::new(alloc));
+        WriteSet {
+            writes: Items::from_vec(writes),
+        }
     }
 
     /// What was read, and what is to be written.
