@@ -1,0 +1,5 @@
+pub mod AskLaws
+pub mod KeptLaws
+pub mod Queries
+pub mod TakeLaws
+pub mod UnderLaws

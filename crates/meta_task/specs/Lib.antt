@@ -1,1 +1,4 @@
+pub mod Ops
+pub mod State
+pub mod Steps
 pub mod Task

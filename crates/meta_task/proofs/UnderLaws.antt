@@ -1,0 +1,118 @@
+-- What is known of an operation under way, from step to step.
+use Rattle.std.proofs.Common.{inl, inr, ◌≡◌, Bool, true, false, cond, List, ◌∷◌, refl, sym, subst, ◌∙◌}
+use Rattle.std.specs.Prelude.{Some}
+use Rattle.conflict_sets.specs.declared.sets.ReadSet.{ReadSet}
+use Rattle.fs_base.specs.Config.{Settings}
+use Rattle.fs_base.specs.declared.call.Request.{Request}
+use Rattle.fs_base.specs.declared.reply.Reply.{Reply}
+use Rattle.key_schema.specs.Keys.{spelled_key}
+use Rattle.key_schema.specs.declared.key.Key.{Key}
+use Rattle.key_schema.specs.declared.key.Key.TheVariants as keys
+use Rattle.row_tree.specs.TreeOf.{tree_of}
+use Rattle.row_tree.specs.Values.{spelled_value}
+use Rattle.tree_model.specs.Calls.{effect, is_query}
+use Rattle.txn_task.specs.Agreeing.{Agrees}
+use Rattle.txn_task.specs.Copies.{IsLook}
+use Rattle.txn_task.specs.Transactions.{Transaction, noted}
+use Rattle.txn_task.specs.Writes.{set_write}
+use Rattle.txn_task.specs.declared.messages.Answer.{Answer}
+use Rattle.txn_task.specs.declared.messages.Ask.{Ask}
+use Rattle.txn_task.specs.declared.messages.Ask.TheVariants as asks
+use Rattle.txn_task.specs.declared.messages.Asked.{Asked}
+use Rattle.path_walk.specs.Areas.{Area, OneKey, IsArea}
+use Rattle.path_walk.specs.Footprint.{call_areas, footprint}
+use Rattle.path_walk.specs.Owed.{IsJustified, IsNewAsk, IsOpCommit, MayAsk, KeepsEffect, KeepsAreas}
+use Rattle.path_walk.specs.Sound.{IsJustifiedReply, IsSoundEntry, kept_value}
+use Rattle.path_walk.proofs.SoundLaws.{sound_entry}
+use Rattle.path_walk.proofs.StepLaws.{reaches_more, effect_more, areas_more, kept_before_more}
+use Rattle.path_walk.proofs.WholeLaws.{told_query, told_update}
+use Rattle.meta_task.specs.Ops.{config_of, effect_of, areas_of, IsReady, IsFirst}
+use Rattle.meta_task.specs.State.{IsNew, IsTaken, IsUnder}
+use Rattle.meta_task.specs.declared.op.OpTask.{OpTask}
+use Rattle.meta_task.proofs.Queries.{query_makes_none}
+
+-- ---- the first step, and the next
+
+pub first_under : (C : Settings) (q : Request) (reads : ReadSet) (op : OpTask) → IsFirst C q op → IsNew q reads → IsUnder C q reads op
+first_under C q reads op first new = record {
+  config = first.config;
+  ready = first.ready;
+  effect = λ S good agrees. first.effect (tree_of S);
+  areas = λ S good agrees area h. first.areas (tree_of S) area h;
+  new = new;
+}
+
+pub under_on : (C : Settings) (q : Request) (reads : ReadSet) (old new : OpTask) → IsUnder C q reads old → config_of new ≡ config_of old → IsReady new
+    → KeepsEffect (config_of old) (effect_of old) (effect_of new) reads → KeepsAreas (config_of old) (areas_of old) (areas_of new) reads → IsUnder C q reads new
+under_on C q reads old new under config ready same less =
+    let kept : KeepsEffect C (effect_of old) (effect_of new) reads = subst (λ (D : Settings). KeepsEffect D (effect_of old) (effect_of new) reads) under.config same in
+    let fewer : KeepsAreas C (areas_of old) (areas_of new) reads = subst (λ (D : Settings). KeepsAreas D (areas_of old) (areas_of new) reads) under.config less in
+    record {
+      config = config ∙ under.config;
+      ready = ready;
+      effect = λ S good agrees. kept S good agrees ∙ under.effect S good agrees;
+      areas = λ S good agrees area h. under.areas S good agrees area (fewer S good agrees area h);
+      new = under.new;
+    }
+
+new_more : (q : Request) (reads : ReadSet) (ask : Ask) (answer : Answer) → IsNew q reads → IsNew q (noted reads ask answer)
+new_more q reads ask answer (inl query) = inl query
+new_more q reads ask answer (inr new) = inr (new.0, kept_before_more reads ask answer q new.1)
+
+pub under_more : (C : Settings) (q : Request) (reads : ReadSet) (ask : Ask) (answer : Answer) (op : OpTask) → IsUnder C q reads op → IsUnder C q (noted reads ask answer) op
+under_more C q reads ask answer op under = record {
+  config = under.config;
+  ready = under.ready;
+  effect = effect_more C reads ask answer (λ T. effect C T q) (effect_of op) under.effect;
+  areas = areas_more C reads ask answer (λ T. call_areas T q.server q.call) (areas_of op) under.areas;
+  new = new_more q reads ask answer under.new;
+}
+
+-- ---- asks
+
+pub look_of_new : (reads : ReadSet) (ask : Ask) → IsNewAsk reads ask → IsLook ask
+look_of_new reads (asks.Get key) h = tt
+look_of_new reads (asks.Range lo hi limit) h = tt
+look_of_new reads ask h = absurd h
+
+in_footprint : (b : Bool) (area : Area) (key : Key) (areas : List Area) → IsArea area areas → IsArea area (cond b areas (OneKey key ∷ areas))
+in_footprint true area key areas h = h
+in_footprint false area key areas h = inr h
+
+pub under_may : (C : Settings) (q : Request) (reads : ReadSet) (op : OpTask) (ask : Ask) → IsUnder C q reads op → MayAsk C (areas_of op) reads ask → MayAsk C (λ T. footprint T q) reads ask
+under_may C q reads op ask under may S good agrees =
+    reaches_more (areas_of op (tree_of S)) (footprint (tree_of S) q) ask
+    (λ area h. in_footprint (is_query q.call) area (keys.Idem q.client) (call_areas (tree_of S) q.server q.call) (under.areas S good agrees area h))
+    (may S good agrees)
+
+pub kept_may : (C : Settings) (q : Request) (reads : ReadSet) → is_query q.call ≡ false → MayAsk C (λ T. footprint T q) reads (asks.Get (keys.Idem q.client))
+kept_may C q reads update S good agrees =
+    let areas : List Area = call_areas (tree_of S) q.server q.call in
+    subst (λ b. IsArea (OneKey (keys.Idem q.client)) (cond b areas (OneKey (keys.Idem q.client) ∷ areas))) (sym update) (inl refl)
+
+-- ---- replies
+
+pub under_told : (C : Settings) (q : Request) (reads : ReadSet) (op : OpTask) (reply : Reply) → IsUnder C q reads op → IsJustified C (effect_of op) reads reply → IsJustifiedReply C q reads reply
+under_told C q reads op reply under told = by_kind under.new
+  where
+    by_kind : IsNew q reads → IsJustifiedReply C q reads reply
+    by_kind (inl query) = told_query C q (effect_of op) reads reply under.effect told query
+    by_kind (inr new) = told_update C q (effect_of op) reads reply under.effect told new.0 new.1
+
+-- ---- commits
+
+pub under_sound : (C : Settings) (q : Request) (op : OpTask) (t : Transaction) (reply : Reply) (asked : List Asked) → IsTaken C q → is_query q.call ≡ false → IsUnder C q t.reads op → IsOpCommit C (effect_of op) t reply asked
+    → IsSoundEntry C (record { request = q; reply = reply; asked = asked; reads = t.reads; writes = record { writes = set_write (spelled_key (keys.Idem q.client)) (Some (spelled_value (kept_value q reply))) t.writes } })
+under_sound C q op t reply asked taken update under made = by_kind under.new
+  where
+    by_kind : IsNew q t.reads → IsSoundEntry C (record { request = q; reply = reply; asked = asked; reads = t.reads; writes = record { writes = set_write (spelled_key (keys.Idem q.client)) (Some (spelled_value (kept_value q reply))) t.writes } })
+    by_kind (inl query) = absurd (let e : true ≡ false = sym query ∙ update in cc)
+    by_kind (inr new) = sound_entry C q (effect_of op) t reply asked update under.effect made new.1 taken.client taken.valid.number taken.number
+
+-- no rows agree with what a query has read that would commit
+pub query_told : (C : Settings) (q : Request) (op : OpTask) (t : Transaction) (reply : Reply) (asked : List Asked) → is_query q.call ≡ true → IsUnder C q t.reads op → IsOpCommit C (effect_of op) t reply asked → IsJustifiedReply C q t.reads reply
+query_told C q op t reply asked query under made rows T asc tree agrees =
+    let S = tree.0 in
+    let at : Agrees S t.reads = record { rows = rows; ascending = asc; spells = tree.1; agrees = agrees } in
+    let done = made.sound S tree.2 at in
+    absurd (query_makes_none C (tree_of S) q (tree_of done.0) reply query (sym (under.effect S tree.2 at) ∙ done.3))

@@ -1,0 +1,107 @@
+-- What a request under way holds between its asks, by what it waits for.
+use Rattle.std.specs.Prelude.{◌≡◌, ◌⊎◌, ◌<◌, ◌^◌, [], Option, Some, None, true, false, length}
+use Rattle.conflict_sets.specs.declared.sets.ReadSet.{ReadSet}
+use Rattle.fs_base.specs.Config.{Settings}
+use Rattle.fs_base.specs.declared.call.Request.{Request}
+use Rattle.key_schema.specs.Keys.{spelled_key}
+use Rattle.key_schema.specs.declared.key.Key.TheVariants as keys
+use Rattle.tree_model.specs.Calls.{effect, is_query}
+use Rattle.txn_task.specs.Transactions.{with_key}
+use Rattle.txn_task.specs.Tries.{Tries}
+use Rattle.txn_task.specs.declared.messages.Answer.{Answer}
+use Rattle.txn_task.specs.declared.messages.Answer.TheVariants as answers
+use Rattle.txn_task.specs.declared.messages.Ask.{Ask}
+use Rattle.txn_task.specs.declared.messages.Ask.TheVariants as asks
+use Rattle.txn_task.specs.declared.messages.OpStep.TheVariants as steps
+use Rattle.path_walk.specs.Footprint.{call_areas}
+use Rattle.path_walk.specs.Owed.{IsNewAsk, IsKeptBefore, KeepsEffect, KeepsAreas, GoesOn}
+use Rattle.path_walk.specs.Requests.{IsRequest}
+use Rattle.meta_task.specs.Ops.{config_of, effect_of, areas_of, HasAsked, IsReady}
+use Rattle.meta_task.specs.Task.{TaskView, no_reads}
+use Rattle.meta_task.specs.declared.op.OpTask.{OpTask}
+use Rattle.meta_task.specs.declared.state.State.{State}
+use Rattle.meta_task.specs.declared.waiting.Waiting.{Waiting}
+use Rattle.meta_task.specs.declared.waiting.Waiting.TheVariants as waits
+
+abbrev pub view_of : State → TaskView
+view_of s = record {
+  config = s.config;
+  attempts = s.retry.attempts;
+  request = s.request;
+  waiting = s.waiting;
+  begun = s.begun;
+  snapshot = s.txn.snapshot;
+  reads = s.txn.reads;
+  conflicts = s.retry.conflicts;
+  outcome = s.outcome;
+}
+
+-- the request is one that a server takes, with a client and a number of their sizes
+pub record IsTaken (C : Settings) (q : Request) : Type 0 where
+  pub valid : IsRequest C q
+  pub client : q.client.0 < 2 ^ 128
+  pub number : q.number < 2 ^ 64
+
+-- another conflict may be met
+abbrev pub HasLeft : Tries → Type 0
+HasLeft tries = length tries.conflicts < tries.attempts
+
+-- a query, or an update that is newer than its client's kept reply
+abbrev pub IsNew : Request → ReadSet → Type 0
+IsNew q reads = (is_query q.call ≡ true) ⊎ ((is_query q.call ≡ false) × IsKeptBefore reads q)
+
+-- an operation of the request under way: it comes to the same, and reads no more
+pub record IsUnder (C : Settings) (q : Request) (reads : ReadSet) (op : OpTask) : Type 0 where
+  pub config : config_of op ≡ C
+  pub ready : IsReady op
+  pub effect : KeepsEffect C (λ T. effect C T q) (effect_of op) reads
+  pub areas : KeepsAreas C (λ T. call_areas T q.server q.call) (areas_of op) reads
+  pub new : IsNew q reads
+
+-- an ask of the operation
+pub record IsAsking (C : Settings) (q : Request) (reads : ReadSet) (ask : Ask) (op : OpTask) : Type 0 where
+  pub under : IsUnder C q reads op
+  pub fresh : IsNewAsk reads ask
+  pub asked : GoesOn (HasAsked op) reads.ranges (steps.Ask ask)
+
+-- the first ask of an update: its client's kept reply
+pub record IsAskingKept (q : Request) (reads : ReadSet) (ask : Ask) : Type 0 where
+  pub update : is_query q.call ≡ false
+  pub reads_are : reads ≡ no_reads
+  pub key : ask ≡ asks.Get (keys.Idem q.client)
+
+abbrev pub IsReading : Settings → Request → ReadSet → Ask → Option OpTask → Type 0
+IsReading C q reads ask (Some op) = IsAsking C q reads ask op
+IsReading C q reads ask None = IsAskingKept q reads ask
+
+-- between an answer and the next ask, within an attempt
+pub record IsGoing (s : State) : Type 0 where
+  pub taken : IsTaken s.config s.request
+  pub ended : s.waiting ≡ waits.Ended
+  pub begun : s.begun ≡ true
+  pub left : HasLeft s.retry
+
+pub record IsWaiting (s : State) (ask : Ask) : Type 0 where
+  pub begun : s.begun ≡ true
+  pub unwritten : s.txn.writes ≡ []
+  pub left : HasLeft s.retry
+  pub asks : IsReading s.config s.request s.txn.reads ask s.op
+
+abbrev pub IsKnown : State → Waiting → Type 0
+IsKnown s waits.Fresh = (s.begun ≡ false) × HasLeft s.retry
+IsKnown s waits.Beginning = HasLeft s.retry
+IsKnown s (waits.Reading ask) = IsWaiting s ask
+IsKnown s (waits.Committing reply) = HasLeft s.retry
+IsKnown s waits.Ended = Unit {0}
+
+pub record IsState (s : State) : Type 0 where
+  pub taken : IsTaken s.config s.request
+  pub known : IsKnown s s.waiting
+
+-- after an answer that is among the reads: the operation is still that of the request, or what stands at the client's key was read
+abbrev pub IsNoted : Option OpTask → State → State → Answer → Type 0
+IsNoted (Some op) old new answer = IsUnder new.config new.request new.txn.reads op × HasAsked op new.txn.reads.ranges
+IsNoted None old new (answers.Got got) =
+    (is_query new.request.call ≡ false) × (new.txn.reads ≡ with_key no_reads (spelled_key (keys.Idem new.request.client)) got.value)
+    × (old.waiting ≡ waits.Reading (asks.Get (keys.Idem old.request.client)))
+IsNoted None old new answer = ⊥

@@ -1,0 +1,95 @@
+ghost use Rattle.std.specs.Prelude.{◌≡◌, [], IfOk, OnOk, IsTrue, true, false};
+ghost use Rattle.tree_model.specs.Calls.{is_built};
+ghost use Rattle.path_walk.specs.Owed.{IsOpStep, KeepsEffect, KeepsAreas, GoesOn, LeavesWrites};
+ghost use Rattle.path_walk.specs.Requests.{IsRequest};
+ghost use Rattle.op_attr.specs.Attr.{IsAttrCall};
+ghost use Rattle.op_create.specs.Create.{IsCreateCall};
+ghost use Rattle.meta_task.specs.Ops.{IsFirst, IsReady, HasAsked, config_of, effect_of, areas_of};
+
+use fs_base::{Call, Config, Memory, Request};
+use op_attr::AttrTask;
+use op_create::CreateTask;
+use std::alloc::Global;
+use txn_task::{Answer, OpStep, Txn};
+
+/// An operation of a request under way, in one attempt.
+#[derive(Drop)]
+pub enum OpTask {
+    /// lookup, stat, list, readlink or setattr.
+    Attr(AttrTask),
+    /// mkdir, create or symlink.
+    Create(CreateTask),
+}
+
+/// Whether the call makes a node.
+fn makes_node(call: &Call) -> bool
+    requires { IsTrue (is_built call.now) }
+    ensures makes { result ≡ true → IsCreateCall call.now }
+    ensures other { result ≡ false → IsAttrCall call.now }
+{
+    match call {
+        Call::Mkdir { .. } => true,
+        Call::Create { .. } => true,
+        Call::Symlink { .. } => true,
+        _ => false,
+    }
+}
+
+fn attr(alloc: Global, request: &Request, config: &Config) -> Result<OpTask, Memory>
+    requires valid { IsRequest config.now request.now }
+    requires call { IsAttrCall request.now.call }
+    ensures { IfOk result (λ op. IsFirst config.now request.now op) }
+{
+    let task = AttrTask::new(alloc, request, config)?;
+    Ok(OpTask::Attr(task))
+}
+
+fn create(alloc: Global, request: &Request, config: &Config) -> Result<OpTask, Memory>
+    requires valid { IsRequest config.now request.now }
+    requires call { IsCreateCall request.now.call }
+    ensures { IfOk result (λ op. IsFirst config.now request.now op) }
+{
+    let task = CreateTask::new(alloc, request, config)?;
+    Ok(OpTask::Create(task))
+}
+
+impl OpTask {
+    /// The operation of a request, before its first step.
+    pub fn new(alloc: Global, request: &Request, config: &Config) -> Result<OpTask, Memory>
+        requires { IsRequest config.now request.now }
+        ensures { IfOk result (λ op. IsFirst config.now request.now op) }
+    {
+        if makes_node(&request.call) {
+            let op = create(alloc, request, config)?;
+            return Ok(op);
+        }
+        let op = attr(alloc, request, config)?;
+        Ok(op)
+    }
+
+    /// The next step, once the answer is among the reads. An operation without memory for it may be left anywhere.
+    pub fn next(&mut self, alloc: Global, answer: Answer, txn: &mut Txn) -> Result<OpStep, Memory>
+        requires ready { IsReady self.old }
+        requires writes { txn.old.writes ≡ [] }
+        requires asked { HasAsked self.old txn.old.reads.ranges }
+        ensures config { OnOk result (config_of self.new ≡ config_of self.old) }
+        ensures ready { OnOk result (IsReady self.new) }
+        ensures reads { OnOk result ((txn.new.reads ≡ txn.old.reads) × (txn.new.snapshot ≡ txn.old.snapshot)) }
+        ensures keeps { OnOk result (KeepsEffect (config_of self.old) (effect_of self.old) (effect_of self.new) txn.old.reads) }
+        ensures areas { OnOk result (KeepsAreas (config_of self.old) (areas_of self.old) (areas_of self.new) txn.old.reads) }
+        ensures step { IfOk result (λ s. IsOpStep (config_of self.old) (areas_of self.new) (effect_of self.new) txn.new s) }
+        ensures asked { IfOk result (λ s. GoesOn (HasAsked self.new) txn.new.reads.ranges s) }
+        ensures unwritten { IfOk result (λ s. LeavesWrites s txn.new.writes) }
+    {
+        match self {
+            OpTask::Attr(task) => {
+                let step = task.next(alloc, answer, txn)?;
+                Ok(step)
+            }
+            OpTask::Create(task) => {
+                let step = task.next(alloc, answer, txn)?;
+                Ok(step)
+            }
+        }
+    }
+}
