@@ -3,3 +3,4 @@ pub mod ChangeLaws
 pub mod EndLaws
 pub mod Fitting
 pub mod ReadLaws
+pub mod WritingLaws

@@ -6,3 +6,6 @@ mod setattr;
 mod task;
 
 pub use task::{AttrCall, AttrTask, Stage};
+
+#[cfg(test)]
+mod tests;

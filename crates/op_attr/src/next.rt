@@ -1,4 +1,5 @@
 ghost use Rattle.std.specs.Prelude.{◌≡◌, ◌<◌, ◌^◌, [], IfOk, OnOk};
+ghost use Rattle.fs_base.specs.Config.{Settings};
 ghost use Rattle.fs_base.specs.declared.kind.Kind.{Kind};
 ghost use Rattle.fs_base.specs.declared.kind.Kind.TheVariants as kinds;
 ghost use Rattle.row_tree.specs.Told.{attributes_at, length_at};
@@ -12,6 +13,7 @@ ghost use Rattle.path_walk.specs.Owed.{IsOpStep, KeepsEffect, KeepsAreas, GoesOn
 ghost use Rattle.path_walk.specs.declared.walk.WalkStep.TheVariants as walks;
 ghost use Rattle.op_attr.specs.declared.task.AttrCall.TheVariants as attr;
 ghost use Rattle.op_attr.specs.Attr.{IsReady, MaySet, HasAsked, areas_of, effect_of};
+ghost use Rattle.op_attr.specs.Changing.{WritesChange};
 ghost use Rattle.op_attr.specs.Ending.{IsStepOf, IsEndStep, IsSameCall, stage_at};
 
 use crate::setattr::setattr;
@@ -142,6 +144,7 @@ fn readlink(alloc: Global, txn: &Txn, id: InodeId, kind: Kind) -> Result<OpStep,
 }
 
 /// What the call does at a node.
+#[tactic(auto, using(crate::proofs::WritingLaws::changes_none))]
 fn at_node(
     call: AttrCall,
     alloc: Global,
@@ -154,6 +157,7 @@ fn at_node(
     requires asked { txn.old.reads.ranges ≡ [] }
     ensures reads { OnOk result ((txn.new.reads ≡ txn.old.reads) × (txn.new.snapshot ≡ txn.old.snapshot)) }
     ensures step { IfOk result (IsEndStep call (At id kind) txn.new) }
+    ensures changes { OnOk result ((C : Settings) → WritesChange C txn.new) }
 {
     match call {
         AttrCall::Lookup => Ok(OpStep::Reply(Reply::Found(id, kind))),
@@ -168,6 +172,7 @@ impl AttrTask {
     /// On with what has been read. The answer to the last ask stands among the reads.
     ///
     /// Where memory runs out the task may be left anywhere.
+    #[tactic(auto, using(crate::proofs::WritingLaws::changes_none))]
     pub fn next(&mut self, alloc: Global, answer: Answer, txn: &mut Txn) -> Result<OpStep, Memory>
         requires ready { IsReady self.old }
         requires writes { txn.old.writes ≡ [] }
@@ -180,6 +185,7 @@ impl AttrTask {
         ensures step { IfOk result (λ s. IsOpStep self.old.config (areas_of self.new) (effect_of self.new) txn.new s) }
         ensures asked { IfOk result (λ s. GoesOn (HasAsked self.new) txn.new.reads.ranges s) }
         ensures unwritten { IfOk result (λ s. LeavesWrites s txn.new.writes) }
+        ensures changes { OnOk result (WritesChange self.old.config txn.new) }
     {
         forget(answer);
         let step = match &mut self.stage {
@@ -191,6 +197,7 @@ impl AttrTask {
     }
 
     /// What follows the walk's step.
+    #[tactic(auto, using(crate::proofs::WritingLaws::changes_none))]
     fn follow(&mut self, alloc: Global, txn: &mut Txn, step: WalkStep) -> Result<OpStep, Memory>
         requires ready { IsReady self.old }
         requires writes { txn.old.writes ≡ [] }
@@ -201,6 +208,7 @@ impl AttrTask {
         ensures step { IfOk result (λ s. IsOpStep self.old.config (areas_of self.new) (effect_of self.new) txn.new s) }
         ensures asked { IfOk result (λ s. GoesOn (HasAsked self.new) txn.new.reads.ranges s) }
         ensures unwritten { IfOk result (λ s. LeavesWrites s txn.new.writes) }
+        ensures changes { OnOk result (WritesChange self.old.config txn.new) }
     {
         match step {
             WalkStep::Ask(ask) => Ok(OpStep::Ask(ask)),
@@ -228,6 +236,7 @@ impl AttrTask {
         ensures step { IfOk result (λ s. IsOpStep self.old.config (areas_of self.new) (effect_of self.new) txn.new s) }
         ensures asked { IfOk result (λ s. GoesOn (HasAsked self.new) txn.new.reads.ranges s) }
         ensures unwritten { IfOk result (λ s. LeavesWrites s txn.new.writes) }
+        ensures changes { OnOk result (WritesChange self.old.config txn.new) }
     {
         let step = at_node(self.call, alloc, txn, id, kind)?;
         self.stay(id, kind);

@@ -1,9 +1,10 @@
 ghost use Rattle.std.specs.Prelude.{◌≡◌, ◌<◌, ◌^◌, ◌↔◌, [], IsTrue, IfOk, OnOk};
+ghost use Rattle.fs_base.specs.Config.{Settings};
 ghost use Rattle.fs_base.specs.declared.kind.Kind.{Kind};
 ghost use Rattle.tree_model.specs.declared.walk.Walked.TheVariants.{At};
 ghost use Rattle.op_attr.specs.declared.task.AttrCall.TheVariants as attr;
 ghost use Rattle.op_attr.specs.Attr.{MaySet};
-ghost use Rattle.op_attr.specs.Changing.{changed_row, PutsChanged};
+ghost use Rattle.op_attr.specs.Changing.{changed_row, PutsChanged, WritesChange};
 ghost use Rattle.op_attr.specs.Ending.{IsEndStep};
 
 use fs_base::{Changes, Code, InodeId, Items, Memory, Reply};
@@ -65,6 +66,7 @@ fn in_range(id: InodeId)
 }
 
 /// Sets the attributes of an inode. It is committed also where nothing changes.
+#[tactic(auto, using(crate::proofs::WritingLaws::changes_none))]
 pub(crate) fn setattr(
     alloc: Global,
     txn: &mut Txn,
@@ -77,6 +79,7 @@ pub(crate) fn setattr(
     requires asked { txn.old.reads.ranges ≡ [] }
     ensures reads { OnOk result ((txn.new.reads ≡ txn.old.reads) × (txn.new.snapshot ≡ txn.old.snapshot)) }
     ensures step { IfOk result (λ s. (kind : Kind) → IsEndStep (attr.Setattr stamp changes) (At id kind) txn.new s) }
+    ensures changes { OnOk result ((C : Settings) → WritesChange C txn.new) }
 {
     let row = match want_inode(alloc, txn, id)? {
         Want::Ask(key) => return Ok(OpStep::Ask(Ask::Get(key))),
