@@ -1,4 +1,6 @@
 pub mod Broken
 pub mod Json
+pub mod Numbers
+pub mod Ops
 pub mod Plan
 pub mod Scenario

@@ -3,8 +3,12 @@
 
 mod broken;
 mod json;
+mod numbers;
+mod ops;
 mod plan;
 mod read;
+#[cfg(test)]
+mod tests;
 
 pub use broken::{Broken, ScenarioError, too_long};
 pub use plan::{Op, Plan, Script};

@@ -1,17 +1,53 @@
-use fs_base::{ClientId, Config, DefaultLayout, Items, Place};
+use fs_base::{Changes, ClientId, Config, DefaultLayout, Items, Place, Text};
 
-/// One operation of a client.
+/// One operation of a client. A stamp is the client's time, below 2^53, in a unit that the clients agree on.
+///
+/// A mode is the twelve permission bits of POSIX, below 4,096; a text has at most 65,535 bytes.
 #[derive(Debug, Drop)]
 pub enum Op {
-    /// Makes a directory. A mode is the twelve permission bits of POSIX.
+    /// Makes a directory, with a default layout of its own or its parent's.
     Mkdir {
         stamp: u64,
         place: Place,
         mode: u16,
         layout: Option<DefaultLayout>,
     },
+    /// Makes an empty file, with a chunk and stripe of its own or its directory's.
+    Create {
+        stamp: u64,
+        place: Place,
+        mode: u16,
+        layout: Option<DefaultLayout>,
+    },
+    /// Makes a symbolic link.
+    Symlink {
+        stamp: u64,
+        place: Place,
+        target: Text,
+    },
+    /// Sets attributes: those that are given.
+    Setattr {
+        stamp: u64,
+        place: Place,
+        changes: Changes,
+    },
     /// What stands at a place.
     Lookup {
+        stamp: u64,
+        place: Place,
+    },
+    /// The attributes of what stands at a place.
+    Stat {
+        stamp: u64,
+        place: Place,
+    },
+    /// A directory's entries.
+    List {
+        stamp: u64,
+        place: Place,
+    },
+    /// A link's target.
+    Readlink {
         stamp: u64,
         place: Place,
     },

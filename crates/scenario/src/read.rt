@@ -5,13 +5,16 @@ ghost use Rattle.fs_base.specs.Gives.{Gives};
 ghost use Rattle.serde_json.specs.View.{view};
 ghost use Rattle.scenario.specs.Broken.{broken_of, not_built, rule};
 ghost use Rattle.scenario.specs.declared.broken.ScenarioError.TheVariants.{BadScenario};
-ghost use Rattle.scenario.specs.Plan.{HasOneScript, IsShort};
-ghost use Rattle.scenario.specs.Scenario.{id_in, json_of, op_named, op_of, ops_of, plan_of, scenario_of, script_of, scripts_of, short_enough};
+ghost use Rattle.fs_base.specs.Config.{IsConfig};
+ghost use Rattle.scenario.specs.Plan.{HasOneScript, IsOp, IsScript};
+ghost use Rattle.scenario.specs.Scenario.{config_of, id_in, json_of, ops_of, plan_of, scenario_of, script_of, scripts_of, short_enough};
 
 use crate::broken::{Broken, ScenarioError, need, not_built, too_long};
 use crate::json::{array_at, has_only, text_at};
+use crate::numbers::count_or;
+use crate::ops::op_of;
 use crate::plan::{Op, Plan, Script};
-use fs_base::{ClientId, Config, InodeId, Items, Place, Text};
+use fs_base::{ClientId, Config, Items};
 use serde_json::Value;
 use std::alloc::Global;
 use uuid::Uuid;
@@ -20,7 +23,7 @@ use uuid::Uuid;
 #[tactic(auto, unfolding(crate::specs::Scenario::scenario_of))]
 pub fn read_scenario(alloc: Global, bytes: &[u8]) -> Result<Plan, ScenarioError>
     ensures gives { Gives broken_of (λ plan. plan) result (scenario_of bytes.now) }
-    ensures alone { IfOk result (λ plan. HasOneScript plan) }
+    ensures valid { IfOk result (λ plan. HasOneScript plan) }
     ensures long { 16777216 < length bytes.now → result ≡ Err (BadScenario (rule 1 16777216)) }
 {
     let text = short_enough(bytes)?;
@@ -55,22 +58,52 @@ fn json_of(alloc: Global, bytes: &[u8]) -> Result<Value, ScenarioError>
 #[tactic(auto, unfolding(crate::specs::Scenario::plan_of))]
 fn plan_of(alloc: Global, value: &Value) -> Result<Plan, ScenarioError>
     ensures gives { Gives broken_of (λ plan. plan) result (plan_of (view value.now)) }
-    ensures alone { IfOk result (λ plan. HasOneScript plan) }
+    ensures valid { IfOk result (λ plan. HasOneScript plan) }
 {
-    need(has_only(value, &["clients"]), not_built())?;
+    need(
+        has_only(value, &["clients", "nodes", "chains", "chunk", "stripe"]),
+        not_built(),
+    )?;
+    let config = config_of(value)?;
     let list = array_at(value, "clients", not_built())?;
     need(list.len() == 1, not_built())?;
     let clients = scripts_of(alloc, list)?;
-    Ok(Plan {
-        config: Config::single(),
-        clients,
-    })
+    Ok(Plan { config, clients })
+}
+
+/// The configuration that the top keys name, of one server.
+#[tactic(auto, unfolding(crate::specs::Scenario::config_of))]
+fn config_of(value: &Value) -> Result<Config, Broken>
+    ensures { Gives Some (λ config. config) result (config_of (view value.now)) }
+{
+    let nodes = count_or(value, "nodes", 16, 1)?;
+    let chains = count_or(value, "chains", 256, nodes)?;
+    let chunk = count_or(value, "chunk", 4_194_304, 1_048_576)?;
+    let stripe = count_or(value, "stripe", chains, chains)?;
+    Ok(config_with(nodes, chains, chunk, stripe))
+}
+
+/// For numbers that are known to be in their ranges.
+fn config_with(nodes: u64, chains: u64, chunk: u64, stripe: u64) -> Config
+    requires { IsConfig 1 nodes chains chunk stripe }
+    ensures { result ≡ record {
+      servers = 1;
+      nodes = nodes;
+      chains = chains;
+      chunk = chunk;
+      stripe = stripe;
+    } }
+{
+    match Config::new(1, nodes as u8, chains as u16, chunk as u32, stripe as u16) {
+        Some(config) => config,
+        None => unreachable!(),
+    }
 }
 
 fn scripts_of(alloc: Global, values: &[Value]) -> Result<Items<Script>, ScenarioError>
     ensures gives { Gives broken_of (λ scripts. scripts) result (scripts_of (map view values.now)) }
     ensures count { IfOk result (λ scripts. length scripts ≡ length values.now) }
-    ensures short { IfOk result (λ scripts. All IsShort scripts) }
+    ensures valid { IfOk result (λ scripts. All IsScript scripts) }
 {
     let mut scripts = Items::new(alloc);
     for value in values {
@@ -83,7 +116,7 @@ fn scripts_of(alloc: Global, values: &[Value]) -> Result<Items<Script>, Scenario
 #[tactic(auto, unfolding(crate::specs::Scenario::script_of))]
 fn script_of(alloc: Global, value: &Value) -> Result<Script, ScenarioError>
     ensures gives { Gives broken_of (λ script. script) result (script_of (view value.now)) }
-    ensures short { IfOk result (λ script. IsShort script) }
+    ensures valid { IfOk result (λ script. IsScript script) }
 {
     need(has_only(value, &["id", "ops"]), not_built())?;
     let text = text_at(value, "id", not_built())?;
@@ -110,6 +143,7 @@ fn id_in(text: &str) -> Result<ClientId, Broken>
 fn ops_of(alloc: Global, values: &[Value]) -> Result<Items<Op>, ScenarioError>
     ensures gives { Gives broken_of (λ ops. ops) result (ops_of (map view values.now)) }
     ensures count { IfOk result (λ ops. length ops ≡ length values.now) }
+    ensures valid { IfOk result (λ ops. All IsOp ops) }
 {
     let mut ops = Items::new(alloc);
     for value in values {
@@ -117,35 +151,4 @@ fn ops_of(alloc: Global, values: &[Value]) -> Result<Items<Op>, ScenarioError>
         ops.push(op)?;
     }
     Ok(ops)
-}
-
-#[tactic(auto, unfolding(crate::specs::Scenario::op_of))]
-fn op_of(alloc: Global, value: &Value) -> Result<Op, ScenarioError>
-    ensures { Gives broken_of (λ op. op) result (op_of (view value.now)) }
-{
-    need(has_only(value, &["op", "path"]), not_built())?;
-    let name = text_at(value, "op", not_built())?;
-    let path = text_at(value, "path", not_built())?;
-    need(path.len() <= 65_535, not_built())?;
-    op_named(alloc, name, path)
-}
-
-/// The operation of a name, with the defaults for what is not given.
-fn op_named(alloc: Global, name: &str, path: &str) -> Result<Op, ScenarioError>
-    ensures { Gives broken_of (λ op. op) result (ok_or (op_named name.now path.now) not_built) }
-{
-    let place = Place {
-        base: InodeId::root(),
-        text: Text::from_slice(alloc, path.as_bytes())?,
-    };
-    match name {
-        "mkdir" => Ok(Op::Mkdir {
-            stamp: 0,
-            place,
-            mode: 0o755,
-            layout: None,
-        }),
-        "lookup" => Ok(Op::Lookup { stamp: 0, place }),
-        _ => Err(not_built().into()),
-    }
 }

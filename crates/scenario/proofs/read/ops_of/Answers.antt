@@ -1,22 +1,25 @@
-use Rattle.std.proofs.Common.{arith, length-append, ◌∷◌, []}
+use Rattle.std.proofs.Common.{rules, arith, length-append, ◌∷◌, []}
 use Rattle.std.proofs.lemmas.Result.{err_from_is_err_and}
+use Rattle.std.proofs.lemmas.List.Elements.{All-append}
 use Rattle.fs_base.proofs.Each.{each_more, each_refused, each_done}
 use Rattle.serde_json.specs.View.{view}
 use Rattle.scenario.specs.Broken.{broken_of}
-use Rattle.scenario.specs.Scenario.{op_of}
+use Rattle.scenario.specs.Ops.{op_of}
+use Rattle.scenario.specs.Plan.{IsOp}
 use Rattle.scenario.proofs.read.ops_of.Goals as goal
 
 pub loop-value-preserved : goal.loop-value-preserved
 loop-value-preserved c =
     record {
       count = rw c.in_ok-push.ensures.ok (omega (arith, length-append c.loop-value.ops (c.in_ok-op.op ∷ []), c.loop-value.invariant.count));
-      so_far = rw c.in_ok-push.ensures.ok (each_more (λ _ d. op_of d) view c.loop-value.ops c.loop-value.value-index c.args.values.now c.value-item.result c.in_ok-op.op _ c.loop-value-test.true (rw (← c.value-item.is) c.in_ok-op.ensures) c.loop-value.invariant.so_far);
+      valid = rw c.in_ok-push.ensures.ok (All-append IsOp c.loop-value.ops (c.in_ok-op.op ∷ []) c.loop-value.invariant.valid (search (rules, c.in_ok-op.ensures.valid)));
+      so_far = rw c.in_ok-push.ensures.ok (each_more (λ _ d. op_of d) view c.loop-value.ops c.loop-value.value-index c.args.values.now c.value-item.result c.in_ok-op.op _ c.loop-value-test.true (rw (← c.value-item.is) c.in_ok-op.ensures.gives) c.loop-value.invariant.so_far);
     }
 
 pub returns-in_err-op-clause-gives : goal.returns-in_err-op-clause-gives
 returns-in_err-op-clause-gives c =
     let p = err_from_is_err_and c.from_residual.result c.from_residual.ensures.1 in
-    rw (p.1, p.2) (each_refused (λ _ d. op_of d) view c.loop-value.ops c.loop-value.value-index c.args.values.now c.value-item.result (broken_of c.in_err-op.field-0.0) _ c.loop-value-test.true (rw (← c.value-item.is) c.in_err-op.ensures) c.loop-value.invariant.so_far)
+    rw (p.1, p.2) (each_refused (λ _ d. op_of d) view c.loop-value.ops c.loop-value.value-index c.args.values.now c.value-item.result (broken_of c.in_err-op.field-0.0) _ c.loop-value-test.true (rw (← c.value-item.is) c.in_err-op.ensures.gives) c.loop-value.invariant.so_far)
 
 pub returns-clause-gives : goal.returns-clause-gives
 returns-clause-gives c = each_done (λ _ d. op_of d) view c.loop-value.ops c.loop-value.value-index c.args.values.now _ c.loop-value-test.false c.loop-value.invariant.so_far

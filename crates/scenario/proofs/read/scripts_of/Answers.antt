@@ -4,7 +4,7 @@ use Rattle.std.proofs.lemmas.List.Elements.{All-append}
 use Rattle.fs_base.proofs.Each.{each_more, each_refused, each_done}
 use Rattle.serde_json.specs.View.{view}
 use Rattle.scenario.specs.Broken.{broken_of}
-use Rattle.scenario.specs.Plan.{IsShort}
+use Rattle.scenario.specs.Plan.{IsScript}
 use Rattle.scenario.specs.Scenario.{script_of}
 use Rattle.scenario.proofs.read.scripts_of.Goals as goal
 
@@ -12,7 +12,7 @@ pub loop-value-preserved : goal.loop-value-preserved
 loop-value-preserved c =
     record {
       count = rw c.in_ok-push.ensures.ok (omega (arith, length-append c.loop-value.scripts (c.in_ok-script.script ∷ []), c.loop-value.invariant.count));
-      short = rw c.in_ok-push.ensures.ok (All-append IsShort c.loop-value.scripts (c.in_ok-script.script ∷ []) c.loop-value.invariant.short (search (rules, c.in_ok-script.ensures.short)));
+      valid = rw c.in_ok-push.ensures.ok (All-append IsScript c.loop-value.scripts (c.in_ok-script.script ∷ []) c.loop-value.invariant.valid (search (rules, c.in_ok-script.ensures.valid)));
       so_far = rw c.in_ok-push.ensures.ok (each_more (λ _ d. script_of d) view c.loop-value.scripts c.loop-value.value-index c.args.values.now c.value-item.result c.in_ok-script.script _ c.loop-value-test.true (rw (← c.value-item.is) c.in_ok-script.ensures.gives) c.loop-value.invariant.so_far);
     }
 

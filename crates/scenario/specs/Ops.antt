@@ -1,0 +1,105 @@
+-- The operation that a JSON value reads as.
+use Rattle.std.specs.Prelude.{ℕ, ◌^◌, List, [], ◌∷◌, length, nat_le, Option, Some, None, Result, Ok, Err, codes, if◌then◌else◌}
+use Rattle.std.specs.Option.{ok_or}
+use Rattle.std.specs.Str.{bytes_eq}
+use Rattle.fs_base.specs.Gives.{◌>>=◌}
+use Rattle.fs_base.specs.declared.call.Changes.{Changes}
+use Rattle.fs_base.specs.declared.call.Place.{Place}
+use Rattle.fs_base.specs.declared.layout.DefaultLayout.{DefaultLayout}
+use Rattle.serde_json.specs.Data.{Data}
+use Rattle.scenario.specs.Broken.{not_built, need}
+use Rattle.scenario.specs.Json.{has_only, text_at}
+use Rattle.scenario.specs.Numbers.{number_at, number_or}
+use Rattle.scenario.specs.declared.broken.Broken.{Broken}
+use Rattle.scenario.specs.declared.ops.Making.{Making}
+use Rattle.scenario.specs.declared.ops.OpKind.{OpKind}
+use Rattle.scenario.specs.declared.ops.OpKind.TheVariants as kinds
+use Rattle.scenario.specs.declared.plan.Op.{Op}
+use Rattle.scenario.specs.declared.plan.Op.TheVariants as ops
+
+abbrev pub named : List ℕ → List (List ℕ × OpKind) → Option OpKind
+named name [] = None
+named name (row ∷ rows) = if bytes_eq name row.0 then Some row.1 else named name rows
+
+abbrev pub kind_table : List (List ℕ × OpKind)
+kind_table =
+    (codes "mkdir", kinds.Mkdir) ∷ (codes "create", kinds.Create) ∷ (codes "symlink", kinds.Symlink) ∷ (codes "setattr", kinds.Setattr)
+    ∷ (codes "lookup", kinds.Lookup) ∷ (codes "stat", kinds.Stat) ∷ (codes "list", kinds.List) ∷ (codes "readlink", kinds.Readlink) ∷ []
+
+abbrev pub kind_of : List ℕ → Option OpKind
+kind_of name = named name kind_table
+
+-- the keys that an operation has beside those of every one
+abbrev pub own_keys : OpKind → List (List ℕ)
+own_keys kinds.Mkdir = codes "mode" ∷ codes "chunk" ∷ codes "stripe" ∷ []
+own_keys kinds.Create = codes "mode" ∷ codes "chunk" ∷ codes "stripe" ∷ []
+own_keys kinds.Symlink = codes "target" ∷ []
+own_keys kinds.Setattr = codes "mode" ∷ codes "uid" ∷ codes "gid" ∷ codes "atime" ∷ codes "mtime" ∷ []
+own_keys kinds.Lookup = []
+own_keys kinds.Stat = []
+own_keys kinds.List = []
+own_keys kinds.Readlink = []
+
+abbrev pub keys_of : OpKind → List (List ℕ)
+keys_of kind = codes "op" ∷ codes "time" ∷ codes "path" ∷ codes "dir" ∷ own_keys kind
+
+-- a text of at most 65,535 bytes, which must be there
+abbrev pub short_text : List ℕ → Data → Result (List ℕ) Broken
+short_text name d = do
+  text ← ok_or (text_at name d) not_built
+  fits ← need (nat_le (length text) 65535) not_built
+  Ok text
+
+abbrev pub place_of : Data → Result Place Broken
+place_of d = do
+  base ← number_or (codes "dir") (2 ^ 36) 0 d
+  text ← short_text (codes "path") d
+  Ok (record { base = base; text = text })
+
+-- a chunk and a stripe are given both or neither
+abbrev pub both : Option ℕ → Option ℕ → Result (Option DefaultLayout) Broken
+both None None = Ok None
+both None (Some stripe) = Err not_built
+both (Some chunk) None = Err not_built
+both (Some chunk) (Some stripe) = Ok (Some (record { chunk = chunk; stripe = stripe }))
+
+abbrev pub layout_of : Data → Result (Option DefaultLayout) Broken
+layout_of d = do
+  chunk ← number_at (codes "chunk") (2 ^ 32) d
+  stripe ← number_at (codes "stripe") (2 ^ 16) d
+  both chunk stripe
+
+abbrev pub making_of : ℕ → Data → Result Making Broken
+making_of default d = do
+  mode ← number_or (codes "mode") 4096 default d
+  layout ← layout_of d
+  Ok (record { mode = mode; layout = layout })
+
+unfoldable pub changes_of : Data → Result Changes Broken
+changes_of d = do
+  mode ← number_at (codes "mode") 4096 d
+  owner ← number_at (codes "uid") (2 ^ 32) d
+  group ← number_at (codes "gid") (2 ^ 32) d
+  atime ← number_at (codes "atime") (2 ^ 53) d
+  mtime ← number_at (codes "mtime") (2 ^ 53) d
+  Ok (record { mode = mode; owner = owner; group = group; atime = atime; mtime = mtime })
+
+-- 493 is rwxr-xr-x, 420 is rw-r--r--
+abbrev pub op_with : OpKind → ℕ → Place → Data → Result Op Broken
+op_with kinds.Mkdir stamp place d = making_of 493 d >>= λ made. Ok (ops.Mkdir stamp place made.mode made.layout)
+op_with kinds.Create stamp place d = making_of 420 d >>= λ made. Ok (ops.Create stamp place made.mode made.layout)
+op_with kinds.Symlink stamp place d = short_text (codes "target") d >>= λ target. Ok (ops.Symlink stamp place target)
+op_with kinds.Setattr stamp place d = changes_of d >>= λ changes. Ok (ops.Setattr stamp place changes)
+op_with kinds.Lookup stamp place d = Ok (ops.Lookup stamp place)
+op_with kinds.Stat stamp place d = Ok (ops.Stat stamp place)
+op_with kinds.List stamp place d = Ok (ops.List stamp place)
+op_with kinds.Readlink stamp place d = Ok (ops.Readlink stamp place)
+
+unfoldable pub op_of : Data → Result Op Broken
+op_of d = do
+  name ← ok_or (text_at (codes "op") d) not_built
+  kind ← ok_or (kind_of name) not_built
+  keys ← need (has_only (keys_of kind) d) not_built
+  stamp ← number_or (codes "time") (2 ^ 53) 0 d
+  place ← place_of d
+  op_with kind stamp place d

@@ -1,0 +1,247 @@
+//! The operations of a client.
+
+ghost use Rattle.std.specs.Prelude.{◌≡◌, ◌≤◌, ◌<◌, ◌^◌, codes, length, map, IfOk, IfSome, ok_or};
+ghost use Rattle.fs_base.specs.Gives.{Gives};
+ghost use Rattle.serde_json.specs.View.{view};
+ghost use Rattle.scenario.specs.Broken.{broken_of, not_built};
+ghost use Rattle.scenario.specs.Numbers.{number_or};
+ghost use Rattle.scenario.specs.Ops.{both, changes_of, keys_of, kind_of, layout_of, making_of, op_of, op_with, place_of, short_text};
+ghost use Rattle.scenario.specs.Plan.{IsChanges, IsLayout, IsOp, IsPlace};
+
+use crate::broken::{Broken, ScenarioError, need, not_built};
+use crate::json::{has_only, text_at};
+use crate::numbers::{number_16_at, number_32_at, number_at, number_or};
+use crate::plan::Op;
+use fs_base::{Changes, DefaultLayout, InodeId, Place, Text};
+use serde_json::Value;
+use std::alloc::Global;
+
+/// The operations that are built, by name.
+#[derive(Clone, Copy, Debug, PartialEq, Eq)]
+pub enum OpKind {
+    Mkdir,
+    Create,
+    Symlink,
+    Setattr,
+    Lookup,
+    Stat,
+    List,
+    Readlink,
+}
+
+/// What mkdir and create have beside a place.
+#[derive(Clone, Copy, Debug)]
+pub struct Making {
+    pub mode: u16,
+    pub layout: Option<DefaultLayout>,
+}
+
+/// The operation of a JSON object.
+#[tactic(auto, unfolding(crate::specs::Ops::op_of))]
+pub fn op_of(alloc: Global, value: &Value) -> Result<Op, ScenarioError>
+    ensures gives { Gives broken_of (λ op. op) result (op_of (view value.now)) }
+    ensures valid { IfOk result (λ op. IsOp op) }
+{
+    let name = text_at(value, "op", not_built())?;
+    let kind = kind_of(name)?;
+    need(has_only(value, keys_of(kind)), not_built())?;
+    let stamp = number_or(value, "time", 1 << 53, 0)?;
+    let place = place_of(alloc, value)?;
+    op_with(alloc, kind, stamp, place, value)
+}
+
+fn kind_of(name: &str) -> Result<OpKind, Broken>
+    ensures { result ≡ ok_or (kind_of name.now) not_built }
+{
+    match name {
+        "mkdir" => Ok(OpKind::Mkdir),
+        "create" => Ok(OpKind::Create),
+        "symlink" => Ok(OpKind::Symlink),
+        "setattr" => Ok(OpKind::Setattr),
+        "lookup" => Ok(OpKind::Lookup),
+        "stat" => Ok(OpKind::Stat),
+        "list" => Ok(OpKind::List),
+        "readlink" => Ok(OpKind::Readlink),
+        _ => Err(not_built()),
+    }
+}
+
+/// All the keys that an operation may have.
+fn keys_of(kind: OpKind) -> &'static [&'static str]
+    ensures { map (λ k. k.now) result.now ≡ keys_of kind }
+{
+    match kind {
+        OpKind::Mkdir | OpKind::Create => &["op", "time", "path", "dir", "mode", "chunk", "stripe"],
+        OpKind::Symlink => &["op", "time", "path", "dir", "target"],
+        OpKind::Setattr => &[
+            "op", "time", "path", "dir", "mode", "uid", "gid", "atime", "mtime",
+        ],
+        OpKind::Lookup | OpKind::Stat | OpKind::List | OpKind::Readlink => &[
+            "op", "time", "path", "dir",
+        ],
+    }
+}
+
+/// The text at a key that must be there.
+fn short_text(alloc: Global, value: &Value, name: &str) -> Result<Text, ScenarioError>
+    ensures gives { Gives broken_of (λ text. text) result (short_text name.now (view value.now)) }
+    ensures short { IfOk result (λ text. length text ≤ 65535) }
+{
+    let text = text_at(value, name, not_built())?;
+    need(text.len() <= 65_535, not_built())?;
+    Ok(Text::from_slice(alloc, text.as_bytes())?)
+}
+
+fn place_of(alloc: Global, value: &Value) -> Result<Place, ScenarioError>
+    ensures gives { Gives broken_of (λ place. place) result (place_of (view value.now)) }
+    ensures valid { IfOk result (λ place. IsPlace place) }
+{
+    let base = number_or(value, "dir", 1 << 36, 0)?;
+    let text = short_text(alloc, value, "path")?;
+    Ok(Place {
+        base: InodeId::new(base),
+        text,
+    })
+}
+
+fn both(chunk: Option<u32>, stripe: Option<u16>) -> Result<Option<DefaultLayout>, Broken>
+    ensures gives { result ≡ both chunk stripe }
+    ensures valid { IfOk result (λ layout. IfSome layout IsLayout) }
+{
+    match (chunk, stripe) {
+        (Some(chunk), Some(stripe)) => Ok(Some(DefaultLayout { chunk, stripe })),
+        (None, None) => Ok(None),
+        _ => Err(not_built()),
+    }
+}
+
+fn layout_of(value: &Value) -> Result<Option<DefaultLayout>, Broken>
+    ensures gives { result ≡ layout_of (view value.now) }
+    ensures valid { IfOk result (λ layout. IfSome layout IsLayout) }
+{
+    let chunk = number_32_at(value, "chunk", 1 << 32)?;
+    let stripe = number_16_at(value, "stripe", 1 << 16)?;
+    both(chunk, stripe)
+}
+
+fn mode_or(value: &Value, default: u16) -> Result<u16, Broken>
+    requires { default < 4096 }
+    ensures gives { result ≡ number_or (codes "mode") 4096 default (view value.now) }
+    ensures below { IfOk result (λ mode. mode < 4096) }
+{
+    let mode = number_or(value, "mode", 4096, u64::from(default))?;
+    Ok(mode as u16)
+}
+
+fn making_of(value: &Value, default: u16) -> Result<Making, Broken>
+    requires { default < 4096 }
+    ensures gives { result ≡ making_of default (view value.now) }
+    ensures mode { IfOk result (λ making. making.mode < 4096) }
+    ensures layout { IfOk result (λ making. IfSome making.layout IsLayout) }
+{
+    let mode = mode_or(value, default)?;
+    let layout = layout_of(value)?;
+    Ok(Making { mode, layout })
+}
+
+#[tactic(auto, unfolding(crate::specs::Ops::changes_of))]
+fn changes_of(value: &Value) -> Result<Changes, Broken>
+    ensures gives { result ≡ changes_of (view value.now) }
+    ensures valid { IfOk result (λ changes. IsChanges changes) }
+{
+    let mode = number_16_at(value, "mode", 4096)?;
+    let owner = number_32_at(value, "uid", 1 << 32)?;
+    let group = number_32_at(value, "gid", 1 << 32)?;
+    let atime = number_at(value, "atime", 1 << 53)?;
+    let mtime = number_at(value, "mtime", 1 << 53)?;
+    Ok(Changes {
+        mode,
+        owner,
+        group,
+        atime,
+        mtime,
+    })
+}
+
+/// The operation of a kind at a place, with what it has of its own.
+fn op_with(
+    alloc: Global,
+    kind: OpKind,
+    stamp: u64,
+    place: Place,
+    value: &Value,
+) -> Result<Op, ScenarioError>
+    requires stamp { stamp < 2 ^ 53 }
+    requires place { IsPlace place }
+    ensures gives { Gives broken_of (λ op. op) result (op_with kind stamp place (view value.now)) }
+    ensures valid { IfOk result (λ op. IsOp op) }
+{
+    match kind {
+        OpKind::Mkdir => mkdir_with(stamp, place, value),
+        OpKind::Create => create_with(stamp, place, value),
+        OpKind::Symlink => symlink_with(alloc, stamp, place, value),
+        OpKind::Setattr => setattr_with(stamp, place, value),
+        OpKind::Lookup => Ok(Op::Lookup { stamp, place }),
+        OpKind::Stat => Ok(Op::Stat { stamp, place }),
+        OpKind::List => Ok(Op::List { stamp, place }),
+        OpKind::Readlink => Ok(Op::Readlink { stamp, place }),
+    }
+}
+
+fn mkdir_with(stamp: u64, place: Place, value: &Value) -> Result<Op, ScenarioError>
+    requires stamp { stamp < 2 ^ 53 }
+    requires place { IsPlace place }
+    ensures gives { Gives broken_of (λ op. op) result (op_with OpKind.Mkdir stamp place (view value.now)) }
+    ensures valid { IfOk result (λ op. IsOp op) }
+{
+    let made = making_of(value, 0o755)?;
+    Ok(Op::Mkdir {
+        stamp,
+        place,
+        mode: made.mode,
+        layout: made.layout,
+    })
+}
+
+fn create_with(stamp: u64, place: Place, value: &Value) -> Result<Op, ScenarioError>
+    requires stamp { stamp < 2 ^ 53 }
+    requires place { IsPlace place }
+    ensures gives { Gives broken_of (λ op. op) result (op_with OpKind.Create stamp place (view value.now)) }
+    ensures valid { IfOk result (λ op. IsOp op) }
+{
+    let made = making_of(value, 0o644)?;
+    Ok(Op::Create {
+        stamp,
+        place,
+        mode: made.mode,
+        layout: made.layout,
+    })
+}
+
+fn symlink_with(alloc: Global, stamp: u64, place: Place, value: &Value) -> Result<Op, ScenarioError>
+    requires stamp { stamp < 2 ^ 53 }
+    requires place { IsPlace place }
+    ensures gives { Gives broken_of (λ op. op) result (op_with OpKind.Symlink stamp place (view value.now)) }
+    ensures valid { IfOk result (λ op. IsOp op) }
+{
+    let target = short_text(alloc, value, "target")?;
+    Ok(Op::Symlink {
+        stamp,
+        place,
+        target,
+    })
+}
+
+fn setattr_with(stamp: u64, place: Place, value: &Value) -> Result<Op, ScenarioError>
+    requires stamp { stamp < 2 ^ 53 }
+    requires place { IsPlace place }
+    ensures gives { Gives broken_of (λ op. op) result (op_with OpKind.Setattr stamp place (view value.now)) }
+    ensures valid { IfOk result (λ op. IsOp op) }
+{
+    let changes = changes_of(value)?;
+    Ok(Op::Setattr {
+        stamp,
+        place,
+        changes,
+    })
+}
