@@ -11,7 +11,7 @@ use Rattle.row_records.specs.declared.rows.DentRow.{DentRow}
 use Rattle.row_records.specs.declared.rows.GcRow.{GcRow}
 use Rattle.row_records.specs.declared.rows.GcRow.TheVariants.{Waiting, Purged}
 use Rattle.tree_model.specs.Tree.{next_at}
-use Rattle.tree_model.specs.Calls.{with_child}
+use Rattle.tree_model.specs.Creating.{with_child}
 use Rattle.tree_model.proofs.MapLaws.{ids, names, some_or_none, not_some, some_injective, get-set_same, get-set_other, get-set_cases, count-set, count-none, one_if, map_values-set}
 use Rattle.row_tree.specs.TypedRows.{TypedRows, kind_of, parent_of, parent_at, entries_to, is_to}
 use Rattle.row_tree.specs.TreeOf.{tree_of, node_of}

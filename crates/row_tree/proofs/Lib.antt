@@ -19,5 +19,6 @@ pub mod Refusals
 pub mod RowByRow
 pub mod SpellingLaws
 pub mod Telling
+pub mod Told
 pub mod TreeRead
 pub mod Ways

@@ -5,6 +5,7 @@ pub mod Opening
 pub mod Reading
 pub mod Spelling
 pub mod Steps
+pub mod Told
 pub mod TreeOf
 pub mod TypedRows
 pub mod Values

@@ -6,7 +6,7 @@ use Rattle.fs_base.specs.declared.kind.Kind.TheVariants as kinds
 use Rattle.inode_record.specs.declared.inode.InodeRow.{InodeRow}
 use Rattle.row_records.specs.declared.rows.KeptRow.{KeptRow}
 use Rattle.tree_model.specs.Tree.{next_at}
-use Rattle.tree_model.specs.Calls.{id_of}
+use Rattle.tree_model.specs.Creating.{id_of}
 use Rattle.row_tree.specs.TypedRows.{TypedRows, kind_of, parent_of}
 use Rattle.row_tree.specs.WellFormed.{HasKind, FitsConfig}
 

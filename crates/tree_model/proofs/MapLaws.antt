@@ -272,6 +272,11 @@ module _ {K X Y : Type 0} (R : K → K → Ordering) (f : X → Y) where
   unfolding map_values
   len-map_values m = len-entries (from_sorted {R = R} (map (λ e. (e.0, f e.1)) (entries m))) ∙ ap length (entries-from_sorted R _ (subst T (sym (sorted-changed R f (entries m))) (entries_sorted m))) ∙ length-changed (entries m) ∙ sym (len-entries m)
 
+-- the entries of changed values, in order
+pub entries-map_values : {K X Y : Type 0} (R : K → K → Ordering) (f : X → Y) (m : FinMap R X) → entries (map_values f m) ≡ map (λ e. (e.0, f e.1)) (entries m)
+unfolding map_values
+entries-map_values R f m = entries-from_sorted R _ (subst T (sym (sorted-changed R f (entries m))) (entries_sorted m))
+
 -- what is counted among changed values
 module _ {K X Y : Type 0} (R : K → K → Ordering) (f : X → Y) (p : Y → Bool) where
   tally-changed : (es : List (K × X)) → tally p (map (λ e. (e.0, f e.1)) es) ≡ tally (λ x. p (f x)) es
@@ -279,8 +284,7 @@ module _ {K X Y : Type 0} (R : K → K → Ordering) (f : X → Y) (p : Y → Bo
   tally-changed (e ∷ es) = ap (λ n. cond (p (f e.1)) 1 0 + n) (tally-changed es)
 
   pub count-map_values : (m : FinMap R X) → count_where p (map_values f m) ≡ count_where (λ x. p (f x)) m
-  unfolding map_values
-  count-map_values m = ap (tally p) (entries-from_sorted R _ (subst T (sym (sorted-changed R f (entries m))) (entries_sorted m))) ∙ tally-changed (entries m)
+  count-map_values m = ap (tally p) (entries-map_values R f m) ∙ tally-changed (entries m)
 
 -- Tests of each entry
 pub and_true : (a b : Bool) → (a && b) ≡ true → (a ≡ true) × (b ≡ true)

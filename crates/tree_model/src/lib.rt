@@ -13,6 +13,8 @@ mod new_node;
 mod node;
 mod plan;
 mod setattr;
+#[cfg(test)]
+mod tests;
 mod tree;
 mod walk;
 mod walking;

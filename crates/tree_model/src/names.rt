@@ -36,6 +36,27 @@ impl Names {
         self.stack.pop()
     }
 
+    /// The next name, which stays.
+    pub fn first(&self) -> Option<&Name>
+        ensures { MatchOption result (self.now ≡ []) (λ name. self.now ≡ name.now ∷ drop 1 self.now) }
+    {
+        self.stack.last()
+    }
+
+    /// Whether no name comes after the next one. It is so too where none are left.
+    pub fn is_last(&self) -> bool
+        ensures { result ≡ is_end (drop 1 self.now) }
+    {
+        self.stack.len() <= 1
+    }
+
+    /// Goes past the next name, if there is one.
+    pub fn skip(&mut self)
+        ensures { self.new ≡ drop 1 self.old }
+    {
+        let _ = self.stack.pop();
+    }
+
     /// Whether none are left.
     pub fn is_empty(&self) -> bool
         ensures { result ≡ is_end self.now }

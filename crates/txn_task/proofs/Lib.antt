@@ -1,3 +1,5 @@
+pub mod ListEntries
+pub mod ListPages
 pub mod PlaceLemmas
 pub mod TellLaws
 pub mod TxnLaws

@@ -12,19 +12,21 @@ use Rattle.conflict_sets.specs.declared.sets.RangeRead.{RangeRead}
 use Rattle.conflict_sets.specs.declared.sets.ReadSet.{ReadSet}
 use Rattle.conflict_sets.proofs.KeyOrder.{key_exact}
 use Rattle.conflict_sets.proofs.RowLemmas.{by_place}
+use Rattle.fs_base.specs.declared.ids.ClientId.{ClientId}
 use Rattle.fs_base.specs.declared.row.Row.{Row}
 use Rattle.inode_record.specs.Inode.{inode_of}
 use Rattle.inode_record.specs.declared.inode.InodeRow.{InodeRow}
 use Rattle.key_schema.specs.Keys.{spelled_key}
 use Rattle.key_schema.specs.Ranges.{dir_prefix, raised}
 use Rattle.key_schema.specs.declared.key.Key.TheVariants as keys
-use Rattle.row_records.specs.Rows.{dent_of, alloc_of}
+use Rattle.row_records.specs.Rows.{dent_of, kept_of, alloc_of}
 use Rattle.row_records.specs.declared.rows.AllocRow.{AllocRow}
 use Rattle.row_records.specs.declared.rows.DentRow.{DentRow}
+use Rattle.row_records.specs.declared.rows.KeptRow.{KeptRow}
 use Rattle.row_tree.specs.TypedRows.{TypedRows}
-use Rattle.row_tree.specs.Values.{Value, InodeValue, DentValue, AllocValue, spelled_value}
-use Rattle.row_tree.proofs.OneValue.{inodes, dents, allocs}
-use Rattle.row_tree.proofs.Putting.{no_inode, no_dent, no_alloc}
+use Rattle.row_tree.specs.Values.{Value, InodeValue, DentValue, KeptValue, AllocValue, spelled_value}
+use Rattle.row_tree.proofs.OneValue.{inodes, dents, kepts, allocs}
+use Rattle.row_tree.proofs.Putting.{no_inode, no_dent, no_kept, no_alloc}
 use Rattle.tree_model.proofs.MapLaws.{and_true}
 use Rattle.txn_task.specs.Agreeing.{Agrees}
 use Rattle.txn_task.specs.Wanted.{IsReading, reads_range, dir_read}
@@ -83,6 +85,23 @@ next_there reads server b row is read S a =
     inner (get S.next server) (told_there S reads (keys.Alloc server) (AllocValue row.next) a tt (is ∙ ap (λ x. Some (Some x)) exact.1) (refl, exact.0))
   where
     inner : (o : Option ℕ) → option_map AllocValue o ≡ Some (AllocValue row.next) → o ≡ Some row.next
+    inner None e = absurd (cc)
+    inner (Some x) e = cc
+
+-- ---- kept replies
+pub kept_absent : (reads : ReadSet) (client : ClientId) → client.0 < 2 ^ 128 → read_of reads.keys (spelled_key (keys.Idem client)) ≡ Some None → (S : TypedRows) → Agrees S reads → get S.kept client.0 ≡ None
+kept_absent reads client fits is S a = mapped_none KeptValue (get S.kept client.0) (told_absent S reads (keys.Idem client) a fits is)
+
+pub kept_never : (reads : ReadSet) (client : ClientId) (b : List ℕ) → client.0 < 2 ^ 128 → read_of reads.keys (spelled_key (keys.Idem client)) ≡ Some (Some b) → IsReading (kept_of b) None → (S : TypedRows) → Agrees S reads → get S.kept client.0 ≡ None
+kept_never reads client b fits is bad S a = absurd (told_never S reads (keys.Idem client) b a fits is (no_kept client b bad.0 bad.1))
+
+pub kept_there : (reads : ReadSet) (client : ClientId) (b : List ℕ) (row : KeptRow) → client.0 < 2 ^ 128 → read_of reads.keys (spelled_key (keys.Idem client)) ≡ Some (Some b) → kept_of b ≡ Ok row → (S : TypedRows) → Agrees S reads → get S.kept client.0 ≡ Some row
+unfolding spelled_value
+kept_there reads client b row fits is read S a =
+    let exact = kepts.exact b row read in
+    inner (get S.kept client.0) (told_there S reads (keys.Idem client) (KeptValue row) a fits (is ∙ ap (λ x. Some (Some x)) exact.1) (refl, exact.0))
+  where
+    inner : (o : Option KeptRow) → option_map KeptValue o ≡ Some (KeptValue row) → o ≡ Some row
     inner None e = absurd (cc)
     inner (Some x) e = cc
 

@@ -1,14 +1,18 @@
 //! What a request asks for and is answered, and what its attempt has read and would write.
 #![tactic(auto)]
 
+mod list;
 mod messages;
 mod txn;
 mod want;
 mod writes;
 
+pub use list::{WantList, want_list};
 pub use messages::{Answer, Ask, Asked, Entry, OpStep};
 pub use txn::Txn;
-pub use want::{Want, WantRange, want_alloc, want_dent, want_inode, want_range};
+pub use want::{Want, WantRange, want_alloc, want_dent, want_inode, want_kept, want_range};
 
+#[cfg(test)]
+mod list_tests;
 #[cfg(test)]
 mod tests;

@@ -13,10 +13,10 @@ ghost use Rattle.txn_task.specs.Writes.{read_of};
 use crate::txn::Txn;
 use byte_fields::RowError;
 use conflict_sets::{RangeRead, compare};
-use fs_base::{InodeId, Memory, Name};
+use fs_base::{ClientId, InodeId, Memory, Name};
 use inode_record::InodeRow;
 use key_schema::{Key, dir_range};
-use row_records::{AllocRow, DentRow};
+use row_records::{AllocRow, DentRow, KeptRow};
 use std::alloc::Global;
 
 /// A row among the reads of an attempt.
@@ -47,7 +47,7 @@ fn kept_at<'a>(alloc: Global, txn: &'a Txn, key: &Key) -> Result<Option<Option<&
 }
 
 /// The row, or none where the bytes aren't one.
-fn found<T: Drop>(row: Result<T, RowError>) -> Result<Option<T>, Memory>
+pub(crate) fn found<T: Drop>(row: Result<T, RowError>) -> Result<Option<T>, Memory>
     ensures { IfOk result (λ read. (answer : Result T ℕ) → Gives place_of (λ x. x) row answer → IsReading answer read) }
 {
     match row {
@@ -106,6 +106,22 @@ pub fn want_alloc(alloc: Global, txn: &Txn, server: u8) -> Result<Want<u64>, Mem
         Some(Some(bytes)) => match found(AllocRow::read(alloc, bytes))? {
             None => Ok(Want::Absent),
             Some(row) => Ok(Want::There(row.next)),
+        },
+    }
+}
+
+/// The row of a client's last update.
+#[tactic(auto, using(crate::proofs::TellLaws::kept_absent))]
+pub fn want_kept(alloc: Global, txn: &Txn, client: ClientId) -> Result<Want<KeptRow>, Memory>
+    ensures { IfOk result (λ want. IsWant want txn.now.reads (keys.Idem client) (λ S. get S.kept client.0)) }
+{
+    let key = Key::Idem(client);
+    match kept_at(alloc, txn, &key)? {
+        None => Ok(Want::Ask(key)),
+        Some(None) => Ok(Want::Absent),
+        Some(Some(bytes)) => match found(KeptRow::read(alloc, bytes))? {
+            None => Ok(Want::Absent),
+            Some(row) => Ok(Want::There(row)),
         },
     }
 }

@@ -1,0 +1,5 @@
+pub mod AreaLaws
+pub mod SoundLaws
+pub mod StepLaws
+pub mod WalkLaws
+pub mod WholeLaws

@@ -1,0 +1,253 @@
+-- An operation's commit with the kept reply is a sound entry; its puts; and what sound entries keep.
+use Rattle.std.proofs.Common.{◌≡◌, ◌≢◌, ℕ, zero, suc, ◌+◌, ◌-◌, ◌<◌, ◌≤◌, ◌^◌, ◌&&◌, nat_le, nat_lt, le-leb, lt-ltb, lit<, true, false, cond, List, [], get_or, refl, sym, ap, subst, ◌∙◌, arith, MatchOption}
+use Rattle.std.specs.Prelude.{Option, Some, None, ⊤, IsTrue}
+use Rattle.std.specs.Option.{option_map}
+use Rattle.std.specs.Ordering.{is_eq}
+use Rattle.std.specs.FinMap.{get, insert}
+use Rattle.std.specs.Int.{w64, to_le_bytes}
+use Rattle.std.proofs.lemmas.Bool.{and_from}
+use Rattle.byte_fields.specs.Fields.{number_8}
+use Rattle.byte_fields.specs.Forms.{are_bytes}
+use Rattle.byte_fields.proofs.Bytes.{are_bytes_by}
+use Rattle.conflict_sets.specs.Keys.{key_cmp}
+use Rattle.conflict_sets.specs.Reads as bytes
+use Rattle.conflict_sets.specs.Rows.{IsAscending, value_at_key, with_writes}
+use Rattle.conflict_sets.specs.declared.sets.ReadSet.{ReadSet}
+use Rattle.conflict_sets.specs.declared.sets.Write.{Write}
+use Rattle.conflict_sets.proofs.KeyOrder.{key_self, key_exact}
+use Rattle.conflict_sets.proofs.RowLemmas.{by_place}
+use Rattle.fs_base.specs.Config.{Settings}
+use Rattle.fs_base.specs.declared.call.Request.{Request}
+use Rattle.fs_base.specs.declared.ids.ClientId.{ClientId}
+use Rattle.fs_base.specs.declared.reply.Reply.{Reply}
+use Rattle.fs_base.specs.declared.row.Row.{Row}
+use Rattle.inode_record.specs.Inode.{spelled_inode}
+use Rattle.inode_record.specs.declared.inode.InodeRow.{InodeRow}
+use Rattle.key_schema.specs.Keys.{spelled_key, IsSpellable, IsValidKey}
+use Rattle.key_schema.specs.declared.key.Key.{Key}
+use Rattle.key_schema.specs.declared.key.Key.TheVariants as keys
+use Rattle.key_schema.proofs.KeyLaws.{one_key_each, spellable}
+use Rattle.row_records.specs.Replies.{is_reply}
+use Rattle.row_records.specs.Rows.{kept, spelled_dent, spelled_alloc}
+use Rattle.row_records.specs.declared.rows.DentRow.{DentRow}
+use Rattle.row_records.specs.declared.rows.KeptRow.{KeptRow}
+use Rattle.row_tree.specs.HasTree.{HasTree, AreWellFormed}
+use Rattle.row_tree.specs.Spelling.{Spells, IsValueOf}
+use Rattle.row_tree.specs.Steps.{with_node, with_row}
+use Rattle.row_tree.specs.TreeOf.{tree_of}
+use Rattle.row_tree.specs.TypedRows.{TypedRows, lookup, kind_of}
+use Rattle.row_tree.specs.Values.{Value, InodeValue, DentValue, KeptValue, AllocValue, IsValue, spelled_value}
+use Rattle.row_tree.proofs.OneValue.{one_value_each}
+use Rattle.row_tree.proofs.SpellingLaws.{found_back, lookup-form}
+use Rattle.tree_model.specs.Calls.{effect, apply, is_query}
+use Rattle.tree_model.specs.Creating.{id_of}
+use Rattle.tree_model.specs.Effects.{Effect, Makes}
+use Rattle.tree_model.specs.Tree.{Tree, next_at}
+use Rattle.txn_task.specs.Agreeing.{Agrees, AreWrites, LeadsTo}
+use Rattle.txn_task.specs.Transactions.{Transaction}
+use Rattle.txn_task.specs.Writes.{set_write, written_at}
+use Rattle.txn_task.specs.declared.messages.Asked.{Asked}
+use Rattle.txn_task.specs.declared.messages.Entry.{Entry}
+use Rattle.txn_task.proofs.TxnLaws.{are_writes_put, leads_none, leads_put}
+use Rattle.txn_task.proofs.WriteLaws.{written_at-set_write}
+use Rattle.path_walk.specs.Owed.{IsOpCommit, LeavesKept, KeepsEffect, IsKeptBefore}
+use Rattle.path_walk.specs.Sound.{IsSoundEntry, ChangesRow, kept_value}
+use Rattle.path_walk.proofs.WholeLaws.{whole_update, kept_in}
+
+-- ---- another value than stands there
+
+none_back : (o : Option Value) → option_map spelled_value o ≡ None → o ≡ None
+none_back None e = refl
+none_back (Some v) e = absurd (cc)
+
+pub write_changes : (rows : List Row) (S : TypedRows) (k : Key) (w : Option Value) → Spells rows S → IsValidKey k → IsValueOf k w → lookup S k ≢ w → value_at_key rows (spelled_key k) ≢ option_map spelled_value w
+write_changes rows S k None spells valid h apart same = apart (none_back (lookup S k) (sym (spells.at k valid) ∙ same))
+write_changes rows S k (Some v) spells valid h apart same =
+    let found = found_back (lookup S k) (spelled_value v) (sym same ∙ spells.at k valid) in
+    apart (found.1 ∙ ap Some (one_value_each k found.0 v (lookup-form S k found.0 found.1) h.0 (spells.fits k found.0 found.1).1 h.1 found.2))
+
+-- ---- numbers and replies in range are kept
+
+byte_of : (n i : ℕ) → get_or (to_le_bytes w64 n) i 0 < 256
+byte_of n zero = omega arith
+byte_of n (suc zero) = omega arith
+byte_of n (suc (suc zero)) = omega arith
+byte_of n (suc (suc (suc zero))) = omega arith
+byte_of n (suc (suc (suc (suc zero)))) = omega arith
+byte_of n (suc (suc (suc (suc (suc zero))))) = omega arith
+byte_of n (suc (suc (suc (suc (suc (suc zero)))))) = omega arith
+byte_of n (suc (suc (suc (suc (suc (suc (suc zero))))))) = omega arith
+byte_of n (suc (suc (suc (suc (suc (suc (suc (suc i)))))))) = lit< tt
+
+fits_8 : (n : ℕ) → n < 2 ^ 64 → number_8.fits n ≡ true
+unfolding number_8
+fits_8 n small = and_from (nat_lt n (2 ^ 64)) (are_bytes (to_le_bytes w64 n)) (lt-ltb n (2 ^ 64) small) (are_bytes_by (to_le_bytes w64 n) (byte_of n))
+
+pub kept_fits : (q : Request) (reply : Reply) → 1 ≤ q.number → q.number < 2 ^ 64 → IsTrue (is_reply reply) → IsValue (kept_value q reply)
+unfolding kept
+kept_fits q reply from small fits =
+    and_from (number_8.fits q.number && (nat_le 1 q.number && nat_le q.number (2 ^ 64 - 1))) (is_reply reply)
+    (and_from (number_8.fits q.number) (nat_le 1 q.number && nat_le q.number (2 ^ 64 - 1)) (fits_8 q.number small)
+    (and_from (nat_le 1 q.number) (nat_le q.number (2 ^ 64 - 1)) (le-leb 1 q.number from) (le-leb q.number (2 ^ 64 - 1) (omega arith))))
+    fits
+
+-- ---- the commit
+
+some_same : (a b : Option (List ℕ)) → Some a ≡ Some b → a ≡ b
+some_same a b e = cc
+
+abbrev number : ℕ → Option Value → ℕ
+number d (Some (KeptValue row)) = row.number
+number d _ = d
+
+-- a smaller number was kept, so the new value is another
+not_kept : (q : Request) (reply : Reply) (o : Option KeptRow) → MatchOption o ⊤ (λ row. row.number < q.number) → option_map KeptValue o ≢ Some (kept_value q reply)
+not_kept q reply None before e = absurd (cc)
+not_kept q reply (Some row) before e = let same : row.number ≡ q.number = ap (number 0) e in omega arith
+
+apart : (k l : Key) → IsSpellable k → IsSpellable l → k ≢ l → is_eq (key_cmp (spelled_key k) (spelled_key l)) ≡ false
+apart k l a b n = by_place _ (spelled_key k) (spelled_key l)
+    (λ e. rw e refl)
+    (λ e. absurd (n (one_key_each k l a b (key_exact (spelled_key k) (spelled_key l) e))))
+    (λ e. rw e refl)
+
+module _ (C : Settings) (q : Request) (f : Tree → Effect) (t : Transaction) (reply : Reply) (asked : List Asked) where
+  abbrev own : List ℕ
+  own = spelled_key (keys.Idem q.client)
+
+  abbrev bytes_kept : List ℕ
+  bytes_kept = spelled_value (kept_value q reply)
+
+  abbrev all : List Write
+  all = set_write own (Some bytes_kept) t.writes
+
+  module _ (update : is_query q.call ≡ false) (same : KeepsEffect C (λ T. effect C T q) f t.reads) (made : IsOpCommit C f t reply asked) (before : IsKeptBefore t.reads q) (client : q.client.0 < 2 ^ 128) (from : 1 ≤ q.number) (small : q.number < 2 ^ 64) where
+    range : IsValue (kept_value q reply)
+    range = kept_fits q reply from small made.reply_fits
+
+    agreeing : (rows : List Row) (T : Tree) → IsAscending rows → (tree : HasTree C rows T) → bytes.Agrees rows t.reads → Agrees tree.0 t.reads
+    agreeing rows T asc tree agrees = record { rows = rows; ascending = asc; spells = tree.1; agrees = agrees }
+
+    acts : (rows : List Row) (T : Tree) → IsAscending rows → HasTree C rows T → bytes.Agrees rows t.reads → (U : Tree) × HasTree C (with_writes rows all) U × (apply C T q ≡ (U, reply))
+    acts rows T asc tree agrees =
+        let whole = whole_update C q f t.reads t.writes reply update same made.sound before client range tree.0 tree.2 (agreeing rows T asc tree agrees) in
+        (tree_of whole.0, (whole.0, whole.1.leads rows asc tree.1, whole.2, refl), ap (λ (x : Tree). apply C x q) (sym tree.3) ∙ whole.3)
+
+    -- it is an effect that makes a tree
+    makes : (rows : List Row) (T : Tree) → IsAscending rows → HasTree C rows T → bytes.Agrees rows t.reads → (V : Tree) × (effect C T q ≡ Makes V reply)
+    makes rows T asc tree agrees =
+        let at = agreeing rows T asc tree agrees in
+        let done = made.sound tree.0 tree.2 at in
+        (tree_of done.0, ap (λ (x : Tree). effect C x q) (sym tree.3) ∙ (sym (same tree.0 tree.2 at) ∙ done.3))
+
+    fresh : (rows : List Row) (T : Tree) → IsAscending rows → HasTree C rows T → bytes.Agrees rows t.reads → MatchOption (get T.kept q.client.0) ⊤ (λ row. row.number < q.number)
+    fresh rows T asc tree agrees =
+        subst (λ (x : Tree). MatchOption (get x.kept q.client.0) ⊤ (λ row. row.number < q.number)) tree.3 (kept_in tree.0 q (before tree.0 (agreeing rows T asc tree agrees)))
+
+    written : (key : List ℕ) → written_at all key ≡ cond (is_eq (key_cmp key own)) (Some (Some bytes_kept)) (written_at t.writes key)
+    written key = written_at-set_write own key (Some bytes_kept) t.writes
+
+    none_written : (c : ClientId) → c.0 < 2 ^ 128 → (v : Option (List ℕ)) → written_at t.writes (spelled_key (keys.Idem c)) ≡ Some v → ⊥
+    none_written c l v is = let e : None ≡ Some v = sym (made.kept.no_kept c l) ∙ is in cc
+
+    kept_changes : (c : ClientId) → c.0 < 2 ^ 128 → ChangesRow C t.reads all (keys.Idem c)
+    kept_changes c l v is rows T asc tree agrees e =
+        let key = spelled_key (keys.Idem c) in
+        let at : cond (is_eq (key_cmp key own)) (Some (Some bytes_kept)) (written_at t.writes key) ≡ Some v = sym (written key) ∙ is in
+        by_place ⊥ key own
+        (λ o. none_written c l v (ap (λ x. cond (is_eq x) (Some (Some bytes_kept)) (written_at t.writes key)) (sym o) ∙ at))
+        (λ o.
+        let value : Some bytes_kept ≡ v = some_same (Some bytes_kept) v (ap (λ x. cond (is_eq x) (Some (Some bytes_kept)) (written_at t.writes key)) (sym o) ∙ at) in
+        write_changes rows tree.0 (keys.Idem q.client) (Some (kept_value q reply)) tree.1 client (refl, range)
+        (not_kept q reply (get (tree.0).kept q.client.0) (before tree.0 (agreeing rows T asc tree agrees)))
+        (ap (value_at_key rows) (sym (key_exact key own o)) ∙ (e ∙ sym value)))
+        (λ o. none_written c l v (ap (λ x. cond (is_eq x) (Some (Some bytes_kept)) (written_at t.writes key)) (sym o) ∙ at))
+
+    doomed_changes : (id : ℕ) → id < 2 ^ 36 → ChangesRow C t.reads all (keys.Gc id)
+    doomed_changes id l v is rows T asc tree agrees e =
+        let key = spelled_key (keys.Gc id) in
+        let other : is_eq (key_cmp key own) ≡ false = apart (keys.Gc id) (keys.Idem q.client) (spellable (keys.Gc id) l) client (λ p. absurd (cc)) in
+        let mine = made.kept.doomed id l v (sym (written key ∙ ap (λ b. cond b (Some (Some bytes_kept)) (written_at t.writes key)) other) ∙ is) in
+        write_changes rows tree.0 (keys.Gc id) mine.0 tree.1 l mine.2 (mine.3 tree.0 tree.2 (agreeing rows T asc tree agrees)) (e ∙ mine.1)
+
+    pub sound_entry : IsSoundEntry C (record { request = q; reply = reply; asked = asked; reads = t.reads; writes = record { writes = set_write (spelled_key (keys.Idem q.client)) (Some (spelled_value (kept_value q reply))) t.writes } })
+    sound_entry =
+        let writes : AreWrites all = are_writes_put (keys.Idem q.client) (Some bytes_kept) t.writes client made.writes in
+        record {
+          acts = acts;
+          makes = makes;
+          fresh = fresh;
+          ascending = writes.ascending;
+          valid = writes.valid;
+          keeps = written own ∙ ap (λ o. cond (is_eq o) (Some (Some bytes_kept)) (written_at t.writes own)) (key_self own);
+          kept = kept_changes;
+          doomed = doomed_changes;
+          update = update;
+          none_asked = made.none_asked;
+        }
+
+-- ---- sound entries keep rows well formed
+
+pub sound_keeps_good : (C : Settings) (e : Entry) (rows : List Row) → IsAscending rows → IsSoundEntry C e → AreWellFormed C rows → bytes.Agrees rows e.reads → AreWellFormed C (with_writes rows e.writes.writes)
+sound_keeps_good C e rows asc sound good agrees = let made = sound.acts rows good.0 asc good.1 agrees in (made.0, made.1)
+
+-- ---- puts
+
+-- a put of another key writes no kept reply and no file in deletion
+pub leaves_kept_none : (C : Settings) (reads : ReadSet) → LeavesKept C reads []
+leaves_kept_none C reads = record { no_kept = λ client l. refl; doomed = λ id l v is. never_written v is }
+  where
+    never_written : {P : Type 0} (v : Option (List ℕ)) → None ≡ Some v → P
+    never_written v is = absurd (cc)
+
+pub leaves_kept_put : (C : Settings) (reads : ReadSet) (k : Key) (v : Option (List ℕ)) (writes : List Write) → IsSpellable k → ((client : ClientId) → keys.Idem client ≢ k) → ((id : ℕ) → keys.Gc id ≢ k)
+    → LeavesKept C reads writes → LeavesKept C reads (set_write (spelled_key k) v writes)
+leaves_kept_put C reads k v writes fits no_client no_file leaves =
+    record {
+      no_kept = λ client l. other (keys.Idem client) l (no_client client) ∙ leaves.no_kept client l;
+      doomed = λ id l w is. leaves.doomed id l w (sym (other (keys.Gc id) (spellable (keys.Gc id) l) (no_file id)) ∙ is);
+    }
+  where
+    other : (q : Key) → IsSpellable q → q ≢ k → written_at (set_write (spelled_key k) v writes) (spelled_key q) ≡ written_at writes (spelled_key q)
+    other q small n = written_at-set_write (spelled_key k) (spelled_key q) v writes ∙ ap (λ b. cond b (Some v) (written_at writes (spelled_key q))) (apart q k small fits n)
+
+-- an inode, its entry and the server's next number, put in this order where nothing was written
+pub leads_node : (S : TypedRows) (next server dir : ℕ) (name : List ℕ) (row : InodeRow) (inode entry number : List ℕ) (writes : List Write)
+    → writes ≡ [] → next_at S.next server ≡ next → inode ≡ spelled_inode row → entry ≡ spelled_dent (record { inode = id_of next server; kind = kind_of row.part }) → number ≡ spelled_alloc (record { next = next + 1 })
+    → IsValidKey (keys.Inode (id_of next server)) → IsValidKey (keys.Dent dir name) → IsValidKey (keys.Alloc server)
+    → IsValue (InodeValue row) → IsValue (DentValue (record { inode = id_of next server; kind = kind_of row.part })) → IsValue (AllocValue (next + 1))
+    → LeadsTo (set_write (spelled_key (keys.Alloc server)) (Some number) (set_write (spelled_key (keys.Dent dir name)) (Some entry) (set_write (spelled_key (keys.Inode (id_of next server))) (Some inode) writes))) S (with_node S server dir name row)
+unfolding spelled_value
+leads_node S next server dir name row inode entry number writes none is at_inode at_entry at_number a b c x y z =
+    subst (λ k. LeadsTo (set_write (spelled_key (keys.Alloc server)) (Some number) (set_write (spelled_key (keys.Dent dir name)) (Some entry) (set_write (spelled_key (keys.Inode (id_of next server))) (Some inode) writes))) S (node_at k)) (sym is)
+    (subst (λ (ws : List Write). LeadsTo (puts inode entry number ws) S (node_at next)) (sym none)
+    (subst (λ v. LeadsTo (puts v entry number []) S (node_at next)) (sym at_inode)
+    (subst (λ v. LeadsTo (puts (spelled_inode row) v number []) S (node_at next)) (sym at_entry)
+    (subst (λ v. LeadsTo (puts (spelled_inode row) (spelled_dent new_entry) v []) S (node_at next)) (sym at_number)
+    (leads_put _ S _ (keys.Alloc server) (Some (AllocValue (next + 1)))
+    (leads_put _ S _ (keys.Dent dir name) (Some (DentValue new_entry))
+    (leads_put [] S S (keys.Inode (id_of next server)) (Some (InodeValue row)) (leads_none S) a (refl, x))
+    b (refl, y))
+    c (refl, z))))))
+  where
+    new_entry : DentRow
+    new_entry = record { inode = id_of next server; kind = kind_of row.part }
+
+    node_at : ℕ → TypedRows
+    node_at k = record S {
+      inodes = insert S.inodes (id_of k server) row;
+      dents = insert S.dents (dir, name) (record { inode = id_of k server; kind = kind_of row.part });
+      next = insert S.next server (k + 1);
+    }
+
+    puts : List ℕ → List ℕ → List ℕ → List Write → List Write
+    puts i e n ws = set_write (spelled_key (keys.Alloc server)) (Some n) (set_write (spelled_key (keys.Dent dir name)) (Some e) (set_write (spelled_key (keys.Inode (id_of next server))) (Some i) ws))
+
+-- an inode's row, where nothing was written
+pub leads_row : (S : TypedRows) (id : ℕ) (row : InodeRow) (bytes : List ℕ) (writes : List Write) → writes ≡ [] → bytes ≡ spelled_inode row → id < 2 ^ 36 → IsValue (InodeValue row)
+    → LeadsTo (set_write (spelled_key (keys.Inode id)) (Some bytes) writes) S (with_row S id row)
+unfolding spelled_value
+leads_row S id row bytes writes none at small fits =
+    subst (λ (ws : List Write). LeadsTo (set_write (spelled_key (keys.Inode id)) (Some bytes) ws) S (with_row S id row)) (sym none)
+    (subst (λ b. LeadsTo (set_write (spelled_key (keys.Inode id)) (Some b) []) S (with_row S id row)) (sym at)
+    (leads_put [] S S (keys.Inode id) (Some (InodeValue row)) (leads_none S) small (refl, fits)))

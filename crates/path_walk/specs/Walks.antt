@@ -1,0 +1,119 @@
+-- What a walk under way comes to, and what its steps say.
+use Rattle.std.specs.Prelude.{◌≡◌, ℕ, ◌+◌, false, cond, length, List, [], ◌∷◌, ◌++◌, drop, Option, Some, None, Ok, Err, if◌then◌else◌}
+use Rattle.std.specs.FinMap.{get}
+use Rattle.conflict_sets.specs.declared.sets.ReadSet.{ReadSet}
+use Rattle.fs_base.specs.Config.{Settings}
+use Rattle.fs_base.specs.Paths.{path_of}
+use Rattle.fs_base.specs.declared.call.Place.{Place}
+use Rattle.fs_base.specs.declared.code.Code.{Code}
+use Rattle.fs_base.specs.declared.code.Code.TheVariants.{BadPath, BadName}
+use Rattle.fs_base.specs.declared.kind.Kind.TheVariants as kinds
+use Rattle.fs_base.specs.declared.path.Path.{Path}
+use Rattle.key_schema.specs.declared.key.Key.{Key}
+use Rattle.row_tree.specs.TreeOf.{tree_of}
+use Rattle.row_tree.specs.TypedRows.{TypedRows}
+use Rattle.row_tree.specs.WellFormed.{IsWellFormed}
+use Rattle.tree_model.specs.declared.walk.WalkEnd.{WalkEnd}
+use Rattle.tree_model.specs.declared.walk.Walked.{Walked}
+use Rattle.tree_model.specs.declared.walk.Walked.TheVariants as walked
+use Rattle.tree_model.specs.Tree.{Tree}
+use Rattle.tree_model.specs.Walk.{Visit, Inode, Trip, visiting, from_base, walk, travel, is_last_of_parent, is_last_unfollowed}
+use Rattle.txn_task.specs.Agreeing.{Agrees}
+use Rattle.txn_task.specs.Wanted.{IsUnread}
+use Rattle.txn_task.specs.declared.messages.Ask.{Ask}
+use Rattle.txn_task.specs.declared.messages.Ask.TheVariants as asks
+use Rattle.path_walk.specs.Areas.{IsArea, OneKey, walked_areas}
+use Rattle.path_walk.specs.declared.walk.Walk.{Walk}
+use Rattle.path_walk.specs.declared.walk.Move.{Move}
+use Rattle.path_walk.specs.declared.walk.Move.TheVariants.{Stop, Down, Followed}
+use Rattle.path_walk.specs.declared.walk.WalkError.{WalkError}
+use Rattle.path_walk.specs.declared.walk.WalkError.TheVariants as errors
+use Rattle.path_walk.specs.declared.walk.WalkStep.{WalkStep}
+use Rattle.path_walk.specs.declared.walk.WalkStep.TheVariants as steps
+
+-- the rest of the walk, from where it stands
+abbrev pub trip_of : Walk → Tree → Trip
+trip_of w T =
+    cond w.at_base
+    (visiting (Inode w.here) (from_base (get T.nodes w.here) (walk w.links T w.end w.rest w.here)))
+    (walk w.links T w.end w.rest w.here)
+
+abbrev pub outcome_of : Walk → Tree → Walked
+outcome_of w T = (trip_of w T).end
+
+abbrev pub after_visits : List Visit → Trip → Trip
+after_visits [] trip = trip
+after_visits (visit ∷ visits) trip = visiting visit (after_visits visits trip)
+
+-- in all well-formed rows that agree with the reads: some was looked at, and the rest is the same walk
+abbrev pub KeepsTrip : Walk → Walk → ReadSet → Type 0
+KeepsTrip old new reads = (C : Settings) (S : TypedRows) → IsWellFormed C S → Agrees S reads → (visits : List Visit) × (trip_of old (tree_of S) ≡ after_visits visits (trip_of new (tree_of S)))
+
+-- in all of them the walk ends so
+abbrev pub HasOutcome : Walk → ReadSet → Walked → Type 0
+HasOutcome w reads end = (C : Settings) (S : TypedRows) → IsWellFormed C S → Agrees S reads → outcome_of w (tree_of S) ≡ end
+
+-- in all of them the rest of the walk looks at the key
+abbrev pub LooksAt : Walk → ReadSet → Key → Type 0
+LooksAt w reads key = (C : Settings) (S : TypedRows) → IsWellFormed C S → Agrees S reads → IsArea (OneKey key) (walked_areas (trip_of w (tree_of S)))
+
+-- a key that wasn't read, and that the rest of the walk looks at
+abbrev pub IsWalkAsk : Walk → ReadSet → Ask → Type 0
+IsWalkAsk w reads (asks.Get key) = IsUnread reads key × LooksAt w reads key
+IsWalkAsk w reads ask = ⊥
+
+abbrev pub IsWalkStep : WalkStep → Walk → ReadSet → Type 0
+IsWalkStep (steps.Ask ask) w reads = IsWalkAsk w reads ask
+IsWalkStep (steps.At id kind) w reads = HasOutcome w reads (walked.At id kind)
+IsWalkStep (steps.Parent id name) w reads = HasOutcome w reads (walked.AtParent id name)
+IsWalkStep (steps.NoName id) w reads = HasOutcome w reads (walked.NoName id)
+IsWalkStep (steps.Refused code) w reads = HasOutcome w reads (walked.Stopped code)
+
+-- ---- how a walk begins
+
+-- the walk of the path that the place's text reads as
+abbrev pub IsStart : Walk → Place → WalkEnd → Type 0
+IsStart w place end = (path : Path) × (path_of place.text ≡ Ok path) × ((T : Tree) → trip_of w T ≡ travel T place.base path end)
+
+abbrev pub walk_refusal : WalkError → Option Code
+walk_refusal errors.BadPath = Some BadPath
+walk_refusal errors.BadName = Some BadName
+walk_refusal errors.Memory = None
+
+-- ---- what one name of a walk comes to
+
+-- the answer that says that a walk ends so
+abbrev pub IsEnd : WalkStep → Walked → Type 0
+IsEnd (steps.Ask ask) end = ⊥
+IsEnd (steps.At id kind) end = end ≡ walked.At id kind
+IsEnd (steps.Parent id name) end = end ≡ walked.AtParent id name
+IsEnd (steps.NoName id) end = end ≡ walked.NoName id
+IsEnd (steps.Refused code) end = end ≡ walked.Stopped code
+
+abbrev pub IsMove : Move → Walk → Walk → ReadSet → Type 0
+IsMove (Stop step) old new reads = IsWalkStep step new reads
+IsMove Down old new reads = (length new.rest + 1 ≡ length old.rest) × (new.links ≡ old.links)
+IsMove Followed old new reads = new.links + 1 ≡ old.links
+
+-- the next name leads to this link, which is to be followed
+pub record IsAtLink (w : Walk) (reads : ReadSet) (id : ℕ) : Type 0 where
+  pub name : List ℕ
+  pub tail : List (List ℕ)
+  pub rest : w.rest ≡ name ∷ tail
+  pub more : is_last_of_parent w.end tail ≡ false
+  pub followed : is_last_unfollowed w.end tail ≡ false
+  pub entry : (S : TypedRows) → Agrees S reads → get S.dents (w.here, name) ≡ Some (record { inode = id; kind = kinds.Link })
+
+-- on at the names of the target and those that are left, with a link less to follow
+pub record IsOnPath (old new : Walk) (path : Path) : Type 0 where
+  pub end : new.end ≡ old.end
+  pub at_base : new.at_base ≡ old.at_base
+  pub links : new.links + 1 ≡ old.links
+  pub here : new.here ≡ (if path.absolute then 0 else old.here)
+  pub rest : new.rest ≡ path.names ++ drop 1 old.rest
+
+-- the target's fault, or on at its path
+abbrev pub IsFollowed : Move → Walk → Walk → List ℕ → Type 0
+IsFollowed (Stop step) old new target = (code : Code) × (path_of target ≡ Err code) × (step ≡ steps.Refused code) × (new ≡ old)
+IsFollowed Down old new target = ⊥
+IsFollowed Followed old new target = (path : Path) × (path_of target ≡ Ok path) × IsOnPath old new path
