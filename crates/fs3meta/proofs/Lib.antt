@@ -1,4 +1,7 @@
+pub mod Asking
 pub mod Due
-pub mod MadeHolds
+pub mod Effects
+pub mod Fits
+pub mod Marks
 pub mod Running
-pub mod SameDecisions
+pub mod Served

@@ -1,5 +1,5 @@
 -- The run of a plan with one client: what the plain tree replies to its operations, in order.
-use Rattle.std.specs.Prelude.{ℕ, ◌+◌, List, [], ◌∷◌, length, count_by, Bool, true, false, if◌then◌else◌, Some}
+use Rattle.std.specs.Prelude.{ℕ, ◌+◌, List, [], ◌∷◌, length, count_by, Bool, true, false, not, if◌then◌else◌, Some}
 use Rattle.fs_base.specs.declared.call.Call.{Call}
 use Rattle.fs_base.specs.declared.call.Call.TheVariants as calls
 use Rattle.fs_base.specs.declared.call.Request.{Request}
@@ -14,25 +14,32 @@ use Rattle.run_record.specs.declared.run.Summary.{Summary}
 use Rattle.scenario.specs.declared.plan.Op.{Op}
 use Rattle.scenario.specs.declared.plan.Op.TheVariants as ops
 use Rattle.scenario.specs.declared.plan.Script.{Script}
-use Rattle.tree_model.specs.Calls.{apply}
+use Rattle.tree_model.specs.Calls.{apply, is_query}
 use Rattle.tree_model.specs.Tree.{Tree, new_tree}
 
 abbrev pub call_of : Op → Call
 call_of (ops.Mkdir stamp place mode layout) = calls.Mkdir place mode layout
+call_of (ops.Create stamp place mode layout) = calls.Create place mode layout
+call_of (ops.Symlink stamp place target) = calls.Symlink place target
+call_of (ops.Setattr stamp place changes) = calls.Setattr place changes
 call_of (ops.Lookup stamp place) = calls.Lookup place
+call_of (ops.Stat stamp place) = calls.Stat place
+call_of (ops.List stamp place) = calls.List place
+call_of (ops.Readlink stamp place) = calls.Readlink place
 
 abbrev pub stamp_of : Op → ℕ
 stamp_of (ops.Mkdir stamp place mode layout) = stamp
+stamp_of (ops.Create stamp place mode layout) = stamp
+stamp_of (ops.Symlink stamp place target) = stamp
+stamp_of (ops.Setattr stamp place changes) = stamp
 stamp_of (ops.Lookup stamp place) = stamp
+stamp_of (ops.Stat stamp place) = stamp
+stamp_of (ops.List stamp place) = stamp
+stamp_of (ops.Readlink stamp place) = stamp
 
 -- each operation is one request to server 0; numbers count from 1
 abbrev pub request_of : ClientId → ℕ → Op → Request
 request_of client op step = record { server = 0; client = client; number = op + 1; stamp = stamp_of step; call = call_of step }
-
--- of the calls that are built
-abbrev pub is_update : Call → Bool
-is_update (calls.Mkdir place mode layout) = true
-is_update _ = false
 
 abbrev pub is_refusal : Reply → Bool
 is_refusal (replies.Refused code) = true
@@ -40,7 +47,7 @@ is_refusal _ = false
 
 -- an update that isn't refused is committed
 abbrev pub commits : Call → Reply → Bool
-commits call reply = if is_refusal reply then false else is_update call
+commits call reply = if is_refusal reply then false else not (is_query call)
 
 -- a commit makes the next version
 abbrev pub version_after : ℕ → Call → Reply → ℕ

@@ -1,8 +1,6 @@
 //! The program `fs3meta`: steps a scenario, and writes the replies.
 #![tactic(auto)]
 
-mod decide;
-mod rows;
 mod run;
 mod serve;
 mod top;
@@ -13,7 +11,6 @@ use std::alloc::Global;
 use std::process::ExitCode;
 use std::rt::Env;
 use std::{env, io};
-
 /// The words of the command line, but for the program's name.
 fn words(alloc: Global, rt: &(impl Env + AllocGlobal)) -> io::Result<Vec<String>> {
     let mut words = Vec::new(alloc);
@@ -38,5 +35,3 @@ fn main(rt: HostRuntime) -> ExitCode {
 
 #[cfg(test)]
 mod tests;
-#[cfg(test)]
-mod tree_tests;

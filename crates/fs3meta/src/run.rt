@@ -1,22 +1,26 @@
-ghost use Rattle.std.specs.Prelude.{◌≡◌, ◌+◌, ◌<◌, ◌≤◌, length, count_by, IsTrue, IfOk, OnOk};
-ghost use Rattle.fs3meta.specs.Decide.{decide, rows_after, reply_of};
-ghost use Rattle.fs3meta.specs.Holds.{HasBase};
-ghost use Rattle.fs3meta.specs.Opening.{opening_rows};
+ghost use Rattle.std.specs.Prelude.{◌≡◌, ◌+◌, ◌<◌, true, length, count_by, IsTrue, IfOk, OnOk};
+ghost use Rattle.row_tree.specs.Opening.{opening_bytes};
+ghost use Rattle.scenario.specs.Plan.{IsOp, IsScript};
+ghost use Rattle.path_walk.specs.Requests.{IsRequest};
+ghost use Rattle.tree_model.specs.Tree.{Tree};
 ghost use Rattle.tree_model.specs.Calls.{is_built};
-ghost use Rattle.fs3meta.specs.Run.{call_of, stamp_of, request_of, commits, receipt_of, receipts_of, summary_of, record_of};
+ghost use Rattle.byte_fields.specs.Forms.{are_bytes};
+ghost use Rattle.fs3meta.specs.Spelling.{HasBytes};
+ghost use Rattle.fs3meta.specs.Run.{call_of, stamp_of, request_of, receipts_of, summary_of, record_of};
+ghost use Rattle.fs3meta.specs.Serving.{HoldsTree, IsNewIn, IsStepped, StartsWith};
 
-use crate::rows::{Plain, Rows};
 use crate::serve::serve;
-use fs_base::{Call, ClientId, Config, InodeId, Items, Memory, Reply, Request};
-use key_schema::Key;
+use fs_base::{Call, ClientId, Config, Items, Memory, Request};
+use kv_store::KvState;
+use meta_task::MetaEntry;
+use row_tree::opening_rows;
 use run_record::{Listed, Receipt, Record, Summary};
 use scenario::{Op, Script};
 use std::alloc::Global;
-use tree_model::Node;
 
-/// Runs a script over rows, one operation after another.
+/// Runs a script over a new store, one operation after another.
 pub fn run(alloc: Global, config: Config, script: &Script) -> Result<Record, Memory>
-    requires { length script.now.ops ≤ 4000 }
+    requires { IsScript script.now }
     ensures { IfOk result (λ run. run ≡ record_of config script.now) }
 {
     let receipts = receipts(alloc, config, script)?;
@@ -32,70 +36,92 @@ pub fn run(alloc: Global, config: Config, script: &Script) -> Result<Record, Mem
 }
 
 fn receipts(alloc: Global, config: Config, script: &Script) -> Result<Items<Listed>, Memory>
-    requires { length script.now.ops ≤ 4000 }
+    requires { IsScript script.now }
     ensures { IfOk result (λ receipts. receipts ≡ receipts_of config script.now) }
 {
-    let mut rows = opening_rows(alloc, config)?;
+    let mut store = new_store(alloc, config)?;
     let mut receipts = Items::new(alloc);
-    let mut version = 0;
     for (op, step) in script.ops.as_slice().iter().enumerate() {
-        let receipt = take_step(
-            alloc, config, &mut rows, script.id, op as u16, version, step,
-        )?;
-        version = receipt.version;
+        let receipt = take_step(alloc, config, &mut store, script.id, op as u16, step)?;
         receipts.push(Listed { client: 0, receipt })?;
     }
     Ok(receipts)
 }
 
-/// The root's row.
-fn opening_rows(alloc: Global, config: Config) -> Result<Rows, Memory>
-    ensures { IfOk result (λ rows. rows ≡ opening_rows config) }
+/// A store with the root directory alone.
+fn new_store(alloc: Global, config: Config) -> Result<KvState<MetaEntry>, Memory>
+    ensures { IfOk result (λ store. StartsWith config store) }
 {
-    let mut rows = Rows::new(alloc);
-    rows.put(
-        alloc,
-        &Key::Inode(InodeId::root()),
-        Plain::Inode(Node::root(&config)),
-    )?;
-    Ok(rows)
+    let rows = opening_rows(alloc, &config)?;
+    KvState::new(alloc, &config, rows)
 }
 
 fn take_step(
     alloc: Global,
     config: Config,
-    rows: &mut Rows,
+    store: &mut KvState<MetaEntry>,
     client: ClientId,
     op: u16,
-    version: u64,
     step: &Op,
 ) -> Result<Receipt, Memory>
-    requires { version < 4000 }
-    ensures base { IfOk result (λ _. HasBase (call_of step.now)) }
-    ensures rows { IfOk result (λ _. rows.new ≡ rows_after rows.old 0 (decide config rows.old (request_of client op step.now))) }
-    ensures receipt { IfOk result (λ r. r ≡ receipt_of op version step.now (reply_of (decide config rows.old (request_of client op step.now)))) }
-    ensures version { IfOk result (λ r. r.version ≤ version + 1) }
+    requires config { store.old.config ≡ config }
+    requires valid { IsOp step.now }
+    requires few { length store.old.journal < 200000 }
+    requires new { (T : Tree) → HoldsTree store.old T → IsNewIn T (request_of client op step.now) }
+    ensures { IfOk result (λ receipt. IsStepped store.old store.new client op step.now receipt) }
 {
-    let request = Request {
+    let _servers = config.servers();
+    texts_are_bytes(step);
+    let request = request_of(alloc, client, op, step)?;
+    let call = call_of(alloc, step)?;
+    let served = serve(alloc, store, config, request)?;
+    Ok(Receipt {
+        op,
+        number: Some(u64::from(op) + 1),
+        server: Some(0),
+        stamp: stamp_of(step),
+        call,
+        reply: served.reply,
+        committed: served.committed,
+        version: served.version,
+    })
+}
+
+fn request_of(alloc: Global, client: ClientId, op: u16, step: &Op) -> Result<Request, Memory>
+    ensures { IfOk result (λ request. request ≡ request_of client op step.now) }
+{
+    Ok(Request {
         server: 0,
         client,
         number: u64::from(op) + 1,
         stamp: stamp_of(step),
         call: call_of(alloc, step)?,
-    };
-    let reply = serve(alloc, &config, rows, &request)?;
-    let committed = commits(&request.call, &reply);
-    let version = if committed { version + 1 } else { version };
-    Ok(Receipt {
-        op,
-        number: Some(request.number),
-        server: Some(0),
-        stamp: request.stamp,
-        call: request.call,
-        reply,
-        committed,
-        version,
     })
+}
+
+/// It does nothing: that numbers are bytes is known where they are seen.
+fn is_of_bytes(bytes: &[u8])
+    ensures { are_bytes bytes.now ≡ true }
+{
+    let _length = bytes.len();
+}
+
+fn texts_are_bytes(step: &Op)
+    ensures { HasBytes step.now }
+{
+    match step {
+        Op::Symlink { place, target, .. } => {
+            is_of_bytes(place.text.as_slice());
+            is_of_bytes(target.as_slice());
+        }
+        Op::Mkdir { place, .. } => is_of_bytes(place.text.as_slice()),
+        Op::Create { place, .. } => is_of_bytes(place.text.as_slice()),
+        Op::Setattr { place, .. } => is_of_bytes(place.text.as_slice()),
+        Op::Lookup { place, .. } => is_of_bytes(place.text.as_slice()),
+        Op::Stat { place, .. } => is_of_bytes(place.text.as_slice()),
+        Op::List { place, .. } => is_of_bytes(place.text.as_slice()),
+        Op::Readlink { place, .. } => is_of_bytes(place.text.as_slice()),
+    }
 }
 
 fn stamp_of(step: &Op) -> u64
@@ -103,14 +129,18 @@ fn stamp_of(step: &Op) -> u64
 {
     match step {
         Op::Mkdir { stamp, .. } => *stamp,
+        Op::Create { stamp, .. } => *stamp,
+        Op::Symlink { stamp, .. } => *stamp,
+        Op::Setattr { stamp, .. } => *stamp,
         Op::Lookup { stamp, .. } => *stamp,
+        Op::Stat { stamp, .. } => *stamp,
+        Op::List { stamp, .. } => *stamp,
+        Op::Readlink { stamp, .. } => *stamp,
     }
 }
 
 fn call_of(alloc: Global, step: &Op) -> Result<Call, Memory>
-    ensures call { IfOk result (λ call. call ≡ call_of step.now) }
-    ensures built { IsTrue (is_built (call_of step.now)) }
-    ensures base { IfOk result (λ _. HasBase (call_of step.now)) }
+    ensures { IfOk result (λ call. call ≡ call_of step.now) }
 {
     match step {
         Op::Mkdir {
@@ -118,29 +148,34 @@ fn call_of(alloc: Global, step: &Op) -> Result<Call, Memory>
             mode,
             layout,
             ..
-        } => {
-            let place = place.try_clone(alloc)?;
-            Ok(Call::Mkdir {
-                place,
-                mode: *mode,
-                layout: *layout,
-            })
-        }
-        Op::Lookup { place, .. } => {
-            let place = place.try_clone(alloc)?;
-            Ok(Call::Lookup(place))
-        }
+        } => Ok(Call::Mkdir {
+            place: place.try_clone(alloc)?,
+            mode: *mode,
+            layout: *layout,
+        }),
+        Op::Create {
+            place,
+            mode,
+            layout,
+            ..
+        } => Ok(Call::Create {
+            place: place.try_clone(alloc)?,
+            mode: *mode,
+            layout: *layout,
+        }),
+        Op::Symlink { place, target, .. } => Ok(Call::Symlink {
+            place: place.try_clone(alloc)?,
+            target: target.try_clone()?,
+        }),
+        Op::Setattr { place, changes, .. } => Ok(Call::Setattr {
+            place: place.try_clone(alloc)?,
+            changes: *changes,
+        }),
+        Op::Lookup { place, .. } => Ok(Call::Lookup(place.try_clone(alloc)?)),
+        Op::Stat { place, .. } => Ok(Call::Stat(place.try_clone(alloc)?)),
+        Op::List { place, .. } => Ok(Call::List(place.try_clone(alloc)?)),
+        Op::Readlink { place, .. } => Ok(Call::Readlink(place.try_clone(alloc)?)),
     }
-}
-
-/// An update that isn't refused is committed.
-fn commits(call: &Call, reply: &Reply) -> bool
-    ensures { result ≡ commits call.now reply.now }
-{
-    if matches!(reply, Reply::Refused(_)) {
-        return false;
-    }
-    matches!(call, Call::Mkdir { .. })
 }
 
 fn summary_of(receipts: &[Listed]) -> Summary

@@ -99,6 +99,88 @@ reply 0 0 1 0 commit 1 mkdir made 16
 end ops=1 commits=1 conflicts=0 stops=0 waiting=0
 "#;
 
+const ATTRIBUTES: &str = r#"{"op":"setattr","path":"/","mode":448,"time":5},
+{"op":"stat","path":"/"}
+
+reply 0 0 1 0 commit 1 setattr done
+reply 0 1 2 0 seen 1 stat attr 0 dir mode=448 uid=0 gid=0 nlink=1 atime=0 mtime=0 ctime=5 length=0
+end ops=2 commits=1 conflicts=0 stops=0 waiting=0
+"#;
+
+/// Two links to each other, ten links in a row, and an eleventh.
+const LINKS: &str = r#"{"op":"symlink","path":"/p","target":"q"},
+{"op":"symlink","path":"/q","target":"p"},
+{"op":"stat","path":"/p"},
+{"op":"create","path":"/f"},
+{"op":"symlink","path":"/l10","target":"f"},
+{"op":"symlink","path":"/l9","target":"l10"},
+{"op":"symlink","path":"/l8","target":"l9"},
+{"op":"symlink","path":"/l7","target":"l8"},
+{"op":"symlink","path":"/l6","target":"l7"},
+{"op":"symlink","path":"/l5","target":"l6"},
+{"op":"symlink","path":"/l4","target":"l5"},
+{"op":"symlink","path":"/l3","target":"l4"},
+{"op":"symlink","path":"/l2","target":"l3"},
+{"op":"symlink","path":"/l1","target":"l2"},
+{"op":"stat","path":"/l1"},
+{"op":"symlink","path":"/l0","target":"l1"},
+{"op":"stat","path":"/l0"},
+{"op":"readlink","path":"/l0"}
+
+reply 0 0 1 0 commit 1 symlink made 16
+reply 0 1 2 0 commit 2 symlink made 32
+reply 0 2 3 0 seen 2 stat LinkLoop
+reply 0 3 4 0 commit 3 create made 48
+reply 0 4 5 0 commit 4 symlink made 64
+reply 0 5 6 0 commit 5 symlink made 80
+reply 0 6 7 0 commit 6 symlink made 96
+reply 0 7 8 0 commit 7 symlink made 112
+reply 0 8 9 0 commit 8 symlink made 128
+reply 0 9 10 0 commit 9 symlink made 144
+reply 0 10 11 0 commit 10 symlink made 160
+reply 0 11 12 0 commit 11 symlink made 176
+reply 0 12 13 0 commit 12 symlink made 192
+reply 0 13 14 0 commit 13 symlink made 208
+reply 0 14 15 0 seen 13 stat attr 48 file mode=420 uid=0 gid=0 nlink=1 atime=0 mtime=0 ctime=0 length=0
+reply 0 15 16 0 commit 14 symlink made 224
+reply 0 16 17 0 seen 14 stat LinkLoop
+reply 0 17 18 0 seen 14 readlink target 6c31
+end ops=18 commits=14 conflicts=0 stops=0 waiting=0
+"#;
+
+/// With names of so many bytes for `<255>` and `<256>`.
+const CREATES: &str = r#"{"op":"create","path":"/<255>"},
+{"op":"create","path":"/<256>"},
+{"op":"create","path":"/<255>"},
+{"op":"create","path":"/x/a"},
+{"op":"create","path":"/<255>/a"},
+{"op":"create","path":"/"},
+{"op":"create","path":"/a","chunk":0,"stripe":1},
+{"op":"create","path":"/a","chunk":4194305,"stripe":1},
+{"op":"create","path":"/a","chunk":1,"stripe":2},
+{"op":"create","path":"/a","chunk":4194304,"stripe":1},
+{"op":"list","path":"/a"},
+{"op":"readlink","path":"/a"},
+{"op":"symlink","path":"/b","target":".."},
+{"op":"setattr","path":"/b","uid":7}
+
+reply 0 0 1 0 commit 1 create made 16
+reply 0 1 2 0 seen 1 create BadName
+reply 0 2 3 0 seen 1 create Exists
+reply 0 3 4 0 seen 1 create NotFound
+reply 0 4 5 0 seen 1 create NotDir
+reply 0 5 6 0 seen 1 create Exists
+reply 0 6 7 0 seen 1 create BadLayout
+reply 0 7 8 0 seen 1 create BadLayout
+reply 0 8 9 0 seen 1 create BadLayout
+reply 0 9 10 0 commit 2 create made 32
+reply 0 10 11 0 seen 2 list NotDir
+reply 0 11 12 0 seen 2 readlink NotLink
+reply 0 12 13 0 seen 2 symlink BadPath
+reply 0 13 14 0 seen 2 setattr NotFound
+end ops=14 commits=2 conflicts=0 stops=0 waiting=0
+"#;
+
 const NONE: &str = "
 
 end ops=0 commits=0 conflicts=0 stops=0 waiting=0
@@ -131,9 +213,9 @@ const NOT_BUILT: &str = r#"{}
 {"clients":[{"id":"I"}]}
 {"clients":[{"id":"I","ops":{}}]}
 {"clients":[{"id":"I","ops":[],"home":0}]}
-{"clients":[{"id":"I","ops":[{"op":"stat","path":"/"}]}]}
+{"clients":[{"id":"I","ops":[{"op":"unlink","path":"/"}]}]}
 {"clients":[{"id":"I","ops":[{"op":"mkdir"}]}]}
-{"clients":[{"id":"I","ops":[{"op":"mkdir","path":"/a","mode":7}]}]}
+{"clients":[{"id":"I","ops":[{"op":"mkdir","path":"/a","mode":4096}]}]}
 {"clients":[{"id":"I","ops":[{"op":"mkdir","path":1.0}]}]}
 {"clients":[{"id":"I","ops":[]},{"id":"I","ops":[]}]}"#;
 
@@ -200,7 +282,7 @@ fn a_client_makes_and_finds_a_directory(rt: HostRuntime) -> Result<(), Fail> {
 
 #[test]
 fn walks_components_and_keys_given_twice(rt: HostRuntime) -> Result<(), Fail> {
-    for case in [NONE, WALKS, COMPONENTS, TWICE] {
+    for case in [NONE, WALKS, COMPONENTS, TWICE, ATTRIBUTES, LINKS] {
         replies(&rt, case)?;
     }
     Ok(())
@@ -221,6 +303,61 @@ fn names_of_255_and_paths_of_4095_bytes(rt: HostRuntime) -> Result<(), Fail> {
     let case = case.replace(alloc, "<256>", long.as_str())?;
     let case = case.replace(alloc, "<4094>", path.as_str())?;
     replies(&rt, case.as_str())
+}
+
+#[test]
+fn creates_and_their_refusals(rt: HostRuntime) -> Result<(), Fail> {
+    let alloc = rt.alloc();
+    let name = String::from_utf8(vec![in alloc; b'n'; 255]?)?;
+    let long = String::from_utf8(vec![in alloc; b'n'; 256]?)?;
+    let case = CREATES.replace(alloc, "<255>", name.as_str())?;
+    let case = case.replace(alloc, "<256>", long.as_str())?;
+    replies(&rt, case.as_str())
+}
+
+/// The files 229 down to 100, and a list.
+fn many_files(alloc: Global) -> Result<Vec<u8>, Fail> {
+    let mut input = bytes_of(alloc, &[BEGIN])?;
+    for name in (100..230u16).rev() {
+        let op = format!(in alloc; "{{\"op\":\"create\",\"path\":\"/{name}\"}},")?;
+        input.extend_from_slice(op.as_bytes())?;
+    }
+    input.extend_from_slice(br#"{"op":"list","path":"/"}"#)?;
+    input.extend_from_slice(END.as_bytes())?;
+    Ok(input)
+}
+
+/// What they are answered: the list has three digits in hex, and the inode.
+fn many_replies(alloc: Global) -> Result<Vec<u8>, Fail> {
+    let mut text = bytes_of(alloc, &[HEADER])?;
+    for op in 0..130u16 {
+        let next = op + 1;
+        let line = format!(in alloc;
+            "reply 0 {op} {next} 0 commit {next} create made {}\n",
+            16 * next
+        )?;
+        text.extend_from_slice(line.as_bytes())?;
+    }
+    text.extend_from_slice(b"reply 0 130 131 0 seen 130 list names 130")?;
+    for name in 100..230u16 {
+        let inode = 16 * (230 - name);
+        let word = format!(in alloc;
+            " 3{}3{}3{}:{inode}:file",
+            name / 100,
+            name / 10 % 10,
+            name % 10
+        )?;
+        text.extend_from_slice(word.as_bytes())?;
+    }
+    text.extend_from_slice(b"\nend ops=131 commits=130 conflicts=0 stops=0 waiting=0\n")?;
+    Ok(text)
+}
+
+#[test]
+fn entries_of_130_files_in_order(rt: HostRuntime) -> Result<(), Fail> {
+    let input = many_files(rt.alloc())?;
+    let text = many_replies(rt.alloc())?;
+    steps(&rt, input.as_slice(), 4096, Status::Ok, text.as_slice())
 }
 
 fn broken(rt: &(impl Abort + AllocGlobal), input: &[u8], line: &str) -> Result<(), Fail> {

@@ -1,6 +1,6 @@
 ghost use Rattle.std.specs.Prelude.{◌≡◌, ◌∷◌, [], false, IsTrue, IfOk, IfErr, Err, string_bytes};
 ghost use Rattle.fs_io.specs.Reading.{TellsFault};
-ghost use Rattle.scenario.specs.Plan.{HasOneScript, IsShort};
+ghost use Rattle.scenario.specs.Plan.{HasOneScript, IsScript};
 ghost use Rattle.fs3meta.specs.Top.{is_step, usage_line, bad_line, IsRunOf, IsDue, CallsFor, TellsReadFault, TellsWriteFault, Writes};
 
 use crate::run::run;
@@ -121,7 +121,7 @@ fn step(alloc: Global, bytes: &[u8]) -> Result<Answer, ReadAllError>
 fn only_script(plan: &Plan) -> &Script
     requires { HasOneScript plan.now }
     ensures alone { plan.now.clients ≡ result.now ∷ [] }
-    ensures short { IsShort result.now }
+    ensures valid { IsScript result.now }
 {
     &plan.clients.as_slice()[0]
 }
