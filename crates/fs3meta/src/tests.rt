@@ -162,7 +162,10 @@ const CREATES: &str = r#"{"op":"create","path":"/<255>"},
 {"op":"list","path":"/a"},
 {"op":"readlink","path":"/a"},
 {"op":"symlink","path":"/b","target":".."},
-{"op":"setattr","path":"/b","uid":7}
+{"op":"setattr","path":"/b","uid":7},
+{"op":"create","path":".","dir":99},
+{"op":"create","path":"a","dir":99},
+{"op":"mkdir","path":"a","dir":16}
 
 reply 0 0 1 0 commit 1 create made 16
 reply 0 1 2 0 seen 1 create BadName
@@ -178,7 +181,10 @@ reply 0 10 11 0 seen 2 list NotDir
 reply 0 11 12 0 seen 2 readlink NotLink
 reply 0 12 13 0 seen 2 symlink BadPath
 reply 0 13 14 0 seen 2 setattr NotFound
-end ops=14 commits=2 conflicts=0 stops=0 waiting=0
+reply 0 14 15 0 seen 2 create Exists
+reply 0 15 16 0 seen 2 create NotFound
+reply 0 16 17 0 seen 2 mkdir NotDir
+end ops=17 commits=2 conflicts=0 stops=0 waiting=0
 "#;
 
 const NONE: &str = "

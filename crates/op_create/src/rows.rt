@@ -14,9 +14,7 @@ ghost use Rattle.op_create.specs.Create.{IsMaking, IsReady};
 ghost use Rattle.op_create.specs.NewRows.{MayMake, HasEnded, row_part, new_row, node_writes};
 
 use crate::task::CreateTask;
-use fs_base::{
-    Code, Config, DefaultLayout, InodeId, Items, Kind, Limit, Memory, Name, Reply,
-};
+use fs_base::{Code, Config, DefaultLayout, InodeId, Items, Kind, Limit, Memory, Name, Reply};
 use inode_record::{InodePart, InodeRow};
 use key_schema::Key;
 use row_records::{AllocRow, DentRow};
