@@ -1,4 +1,5 @@
 pub mod AskLaws
+pub mod AwaitLaws
 pub mod KeptLaws
 pub mod Queries
 pub mod TakeLaws

@@ -1,3 +1,4 @@
+pub mod Awaiting
 pub mod Ops
 pub mod State
 pub mod Steps

@@ -14,3 +14,6 @@ pub use entry::MetaEntry;
 pub use op::OpTask;
 pub use task::MetaTask;
 pub use waiting::Waiting;
+
+#[cfg(test)]
+mod tests;
