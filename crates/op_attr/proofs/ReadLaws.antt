@@ -11,7 +11,7 @@ use Rattle.fs_base.specs.declared.reply.DirEntry.{DirEntry}
 use Rattle.fs_base.specs.declared.reply.Reply.{Reply}
 use Rattle.fs_base.specs.declared.reply.Reply.TheVariants.{Attr, Names, Refused}
 use Rattle.inode_record.specs.declared.inode.InodeRow.{InodeRow}
-use Rattle.row_tree.specs.Told.{attributes_at}
+use Rattle.row_tree.specs.Told.{attributes_at, listed}
 use Rattle.row_tree.specs.TreeOf.{tree_of, node_of, node_part}
 use Rattle.row_tree.specs.TypedRows.{TypedRows, dir_rows}
 use Rattle.row_tree.proofs.Telling.{node_is}
@@ -22,7 +22,6 @@ use Rattle.tree_model.specs.Attributes.{attributes_of}
 use Rattle.tree_model.specs.Effects.{Effect, Leaves}
 use Rattle.tree_model.specs.Finding.{if_there, target_of}
 use Rattle.txn_task.specs.Agreeing.{Agrees}
-use Rattle.txn_task.specs.Listing.{dir_entry}
 use Rattle.txn_task.specs.Transactions.{Transaction}
 use Rattle.txn_task.specs.declared.messages.OpStep.TheVariants as steps
 use Rattle.op_attr.specs.declared.task.AttrCall.TheVariants as attr
@@ -72,7 +71,7 @@ module _ (t : Transaction) (id : ℕ) where
     unwritten = tt;
   }
 
-  pub list_told : (names : List DirEntry) → ((S : TypedRows) → Agrees S t.reads → names ≡ map dir_entry (dir_rows S id)) → IsEndStep attr.List (At id kinds.Dir) t (steps.Reply (Names names))
+  pub list_told : (names : List DirEntry) → ((S : TypedRows) → Agrees S t.reads → names ≡ map listed (dir_rows S id)) → IsEndStep attr.List (At id kinds.Dir) t (steps.Reply (Names names))
   list_told names is = record {
     step = λ C S good agrees. ap (λ (l : List DirEntry). Leaves (Names l)) (names_are C S good id ∙ sym (is S agrees));
     asked = tt;

@@ -16,12 +16,13 @@ use Rattle.key_schema.specs.declared.key.Key.TheVariants as keys
 use Rattle.row_records.specs.Rows.{dent_of}
 use Rattle.row_records.specs.declared.rows.DentRow.{DentRow}
 use Rattle.row_tree.specs.Spelling.{Spells, spelled_dent}
+use Rattle.row_tree.specs.Told.{listed}
 use Rattle.row_tree.specs.TypedRows.{TypedRows, in_dir, dir_rows}
 use Rattle.row_tree.specs.Values.{DentValue, IsValue, spelled_value}
 use Rattle.row_tree.proofs.OneValue.{dents}
 use Rattle.tree_model.specs.Maps.{dent_cmp}
 use Rattle.tree_model.proofs.MapLaws.{decide, both_first, both_second, find_below, not_some, names}
-use Rattle.txn_task.specs.Listing.{AddsEntries, AreEntries, IsEntryOf, IsNameOf, dir_entry, rows_read}
+use Rattle.txn_task.specs.Listing.{AddsEntries, AreEntries, IsEntryOf, IsNameOf, rows_read}
 use Rattle.txn_task.specs.Wanted.{IsReading}
 
 -- ---- a list in two parts
@@ -41,9 +42,9 @@ entry_halves : (dir : ℕ) (front back : List (List ℕ × DentRow)) → AreEntr
 entry_halves dir [] back h = (tt, h)
 entry_halves dir (e ∷ front) back h = let more = entry_halves dir front back h.1 in ((h.0, more.0), more.1)
 
-entries_joined : (front back : List (List ℕ × DentRow)) → map dir_entry front ++ map dir_entry back ≡ map dir_entry (front ++ back)
+entries_joined : (front back : List (List ℕ × DentRow)) → map listed front ++ map listed back ≡ map listed (front ++ back)
 entries_joined [] back = refl
-entries_joined (e ∷ front) back = ap (λ l. dir_entry e ∷ l) (entries_joined front back)
+entries_joined (e ∷ front) back = ap (λ l. listed e ∷ l) (entries_joined front back)
 
 -- ---- rows one after another
 pub adds_none : (names : List DirEntry) → AddsEntries [] names names
@@ -55,9 +56,9 @@ adds_more xs ys a b c first second dir es fits is =
     let parts = halves (spelled_dent dir) es xs ys is in
     let both = entry_halves dir parts.0 parts.1 (subst (AreEntries dir) parts.2 fits) in
     second dir parts.1 both.1 parts.4
-    ∙ (ap (λ l. l ++ map dir_entry parts.1) (first dir parts.0 both.0 parts.3)
-    ∙ (append_assoc a (map dir_entry parts.0) (map dir_entry parts.1)
-    ∙ ap (λ l. a ++ l) (entries_joined parts.0 parts.1 ∙ ap (map dir_entry) (sym parts.2))))
+    ∙ (ap (λ l. l ++ map listed parts.1) (first dir parts.0 both.0 parts.3)
+    ∙ (append_assoc a (map listed parts.0) (map listed parts.1)
+    ∙ ap (λ l. a ++ l) (entries_joined parts.0 parts.1 ∙ ap (map listed) (sym parts.2))))
 
 -- one more row
 pub page_more : (rows : List Row) (i : ℕ) (row : Row) (a b c : List DirEntry) → i < length rows → get_or rows i row ≡ row → AddsEntries (take i rows) a b → AddsEntries (row ∷ []) b c → AddsEntries (take (i + 1) rows) a c
@@ -83,13 +84,13 @@ just_that x e is = cc
 
 pub adds_nothing : (row : Row) (names : List DirEntry) → IsEntryOf row None → AddsEntries (row ∷ []) names names
 adds_nothing row names none dir [] fits is = absurd (cc)
-adds_nothing row names none dir (e ∷ []) fits is = never_found (dir_entry e) (none dir e fits (same_parts row (spelled_dent dir e) [] [] is).0)
+adds_nothing row names none dir (e ∷ []) fits is = never_found (listed e) (none dir e fits (same_parts row (spelled_dent dir e) [] [] is).0)
 adds_nothing row names none dir (e ∷ f ∷ es) fits is = absurd (cc)
 
 pub adds_one : (row : Row) (entry : DirEntry) (names : List DirEntry) → IsEntryOf row (Some entry) → AddsEntries (row ∷ []) names (names ++ entry ∷ [])
 adds_one row entry names some dir [] fits is = absurd (cc)
 adds_one row entry names some dir (e ∷ []) fits is =
-    ap (λ x. names ++ x ∷ []) (just_that entry (dir_entry e) (some dir e fits (same_parts row (spelled_dent dir e) [] [] is).0))
+    ap (λ x. names ++ x ∷ []) (just_that entry (listed e) (some dir e fits (same_parts row (spelled_dent dir e) [] [] is).0))
 adds_one row entry names some dir (e ∷ f ∷ es) fits is = absurd (cc)
 
 -- ---- a row's key and value
@@ -110,11 +111,11 @@ never_read answer place e bad good = let clash : ◌≡◌ {A = Result DentRow �
 pub entry_unread : (row : Row) → IsReading (dent_of row.value) None → IsEntryOf row None
 entry_unread row bad dir e fits is = never_read (dent_of row.value) bad.0 e.1 bad.1 (reads_back row dir e fits is)
 
-pub entry_read : (row : Row) (name : List ℕ) (dent : DentRow) → IsNameOf row.key (Some name) → IsReading (dent_of row.value) (Some dent) → IsEntryOf row (Some (dir_entry (name, dent)))
+pub entry_read : (row : Row) (name : List ℕ) (dent : DentRow) → IsNameOf row.key (Some name) → IsReading (dent_of row.value) (Some dent) → IsEntryOf row (Some (listed (name, dent)))
 entry_read row name dent named read dir e fits is =
     let this : name ≡ e.0 = that_name name e.0 (named dir e.0 (fits.0.0, sym (ap (λ (r : Row). r.key) is))) in
     let value : dent ≡ e.1 = that_value dent e.1 (sym read ∙ reads_back row dir e fits is) in
-    λ i. Some (dir_entry (this i, value i))
+    λ i. Some (listed (this i, value i))
   where
     that_name : (x y : List ℕ) → Some x ≡ Some y → x ≡ y
     that_name x y same = cc

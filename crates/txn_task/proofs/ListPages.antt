@@ -20,10 +20,11 @@ use Rattle.key_schema.specs.Ranges.{dir_prefix, raised}
 use Rattle.key_schema.specs.declared.key.Key.TheVariants as keys
 use Rattle.row_records.specs.declared.rows.DentRow.{DentRow}
 use Rattle.row_tree.specs.Spelling.{spelled_dent}
+use Rattle.row_tree.specs.Told.{listed}
 use Rattle.row_tree.specs.TypedRows.{TypedRows, dir_rows}
 use Rattle.row_tree.proofs.DirRanges.{dir_range_rows}
 use Rattle.txn_task.specs.Agreeing.{Agrees}
-use Rattle.txn_task.specs.Listing.{IsPage, AreParts, ArePages, StartsNext, IsNextPage, AsksNextPage, AddsEntries, start_behind, start_after, next_start, dir_entry, rows_read}
+use Rattle.txn_task.specs.Listing.{IsPage, AreParts, ArePages, StartsNext, IsNextPage, AsksNextPage, AddsEntries, start_behind, start_after, next_start, rows_read}
 use Rattle.txn_task.specs.Transactions.{noted, IsNews}
 use Rattle.txn_task.specs.declared.messages.Answer.TheVariants as answers
 use Rattle.txn_task.specs.declared.messages.Ask.{Ask}
@@ -207,7 +208,7 @@ module _ (R : List Row) (ascending : IsAscending R) (d : ℕ) where
       ∙ (ap (λ l. l ++ drop 128 (map (spelled_dent d) es)) page ∙ take-append-drop 128 (map (spelled_dent d) es))
 
 pub list_told : (reads : ReadSet) (dir : ℕ) (names : List DirEntry) → dir < 2 ^ 36 → ArePages dir reads.ranges → next_start (dir_prefix dir) reads.ranges ≡ None → AddsEntries (rows_read reads.ranges) [] names
-    → (S : TypedRows) → Agrees S reads → names ≡ map dir_entry (dir_rows S dir)
+    → (S : TypedRows) → Agrees S reads → names ≡ map listed (dir_rows S dir)
 list_told reads dir names fits pages none added S a =
     added dir (dir_rows S dir) (dir_entries a.rows S a.spells dir)
     (all_pages a.rows a.ascending dir (dir_prefix dir) (dir_rows S dir) reads.ranges (dir_range_rows a.rows S a.ascending a.spells dir fits) pages a.agrees.ranges none)

@@ -13,6 +13,7 @@ use Rattle.key_schema.specs.Ranges.{dir_prefix, raised}
 use Rattle.key_schema.specs.declared.key.Key.TheVariants as keys
 use Rattle.row_records.specs.declared.rows.DentRow.{DentRow}
 use Rattle.row_tree.specs.Spelling.{spelled_dent}
+use Rattle.row_tree.specs.Told.{listed}
 use Rattle.row_tree.specs.TypedRows.{TypedRows, dir_rows}
 use Rattle.row_tree.specs.Values.{DentValue, IsValue}
 use Rattle.txn_task.specs.Agreeing.{Agrees}
@@ -60,10 +61,6 @@ next_start lo (range ∷ next ∷ ranges) = next_start lo (next ∷ ranges)
 
 -- ---- entries
 
--- a row's entry
-abbrev pub dir_entry : List ℕ × DentRow → DirEntry
-dir_entry e = record { name = e.0; inode = e.1.inode; kind = e.1.kind }
-
 -- what may stand in a directory
 abbrev pub AreEntries : ℕ → List (List ℕ × DentRow) → Type 0
 AreEntries dir [] = Unit {0}
@@ -75,7 +72,7 @@ IsNameOf bytes found = (dir : ℕ) (name : List ℕ) → IsKeyOf bytes (keys.Den
 
 -- the entry of a directory's row is found
 abbrev pub IsEntryOf : Row → Option DirEntry → Type 0
-IsEntryOf row found = (dir : ℕ) (e : List ℕ × DentRow) → AreEntries dir (e ∷ []) → row ≡ spelled_dent dir e → found ≡ Some (dir_entry e)
+IsEntryOf row found = (dir : ℕ) (e : List ℕ × DentRow) → AreEntries dir (e ∷ []) → row ≡ spelled_dent dir e → found ≡ Some (listed e)
 
 -- the rows of all ranges
 abbrev pub rows_read : List RangeRead → List Row
@@ -83,7 +80,7 @@ rows_read ranges = flat_map (λ (range : RangeRead). range.rows) ranges
 
 -- where the rows are a directory's, their entries are added
 abbrev pub AddsEntries : List Row → List DirEntry → List DirEntry → Type 0
-AddsEntries rows old new = (dir : ℕ) (es : List (List ℕ × DentRow)) → AreEntries dir es → rows ≡ map (spelled_dent dir) es → new ≡ old ++ map dir_entry es
+AddsEntries rows old new = (dir : ℕ) (es : List (List ℕ × DentRow)) → AreEntries dir es → rows ≡ map (spelled_dent dir) es → new ≡ old ++ map listed es
 
 -- ---- what is known of a directory's entries
 
@@ -102,4 +99,4 @@ AsksNextPage ask ranges dir = ⊥
 -- the next page is to be asked for, or all rows that agree have these entries in the directory
 abbrev pub IsWantList : WantList → ReadSet → ℕ → Type 0
 IsWantList (wants.Ask ask) reads dir = AsksNextPage ask reads.ranges dir
-IsWantList (wants.All names) reads dir = (S : TypedRows) → Agrees S reads → names ≡ map dir_entry (dir_rows S dir)
+IsWantList (wants.All names) reads dir = (S : TypedRows) → Agrees S reads → names ≡ map listed (dir_rows S dir)

@@ -4,7 +4,7 @@ ghost use Rattle.txn_task.specs.Copies.{IsLook};
 ghost use Rattle.txn_task.specs.declared.messages.Ask.TheVariants as asks;
 
 use crate::messages::Ask;
-use fs_base::{ClientId, InodeId, Memory, Name, Text};
+use fs_base::{ClientId, InodeId, Items, Memory, Name, Text};
 use key_schema::Key;
 use std::alloc::Global;
 
@@ -67,4 +67,15 @@ pub fn copy_look(alloc: Global, ask: &Ask) -> Result<Ask, Memory>
         Ask::Range { lo, hi, limit } => copy_range(lo, hi, *limit),
         _ => unreachable!(),
     }
+}
+
+/// Copies of conflicts, in the same order.
+pub(crate) fn copy_conflicts(alloc: Global, conflicts: &[(u64, Key)]) -> Result<Items<(u64, Key)>, Memory>
+    ensures { IfOk result (λ copies. copies ≡ conflicts.now) }
+{
+    let mut copies = Items::new(alloc);
+    for (version, key) in conflicts {
+        copies.push((*version, copy_key(alloc, key)?))?;
+    }
+    Ok(copies)
 }

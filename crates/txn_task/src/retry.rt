@@ -1,6 +1,6 @@
 ghost use Rattle.std.specs.Prelude.{◌≡◌, ◌≤◌, ◌∷◌, ◌++◌, [], length, nat_lt, IfOk, OnOk, OnErr};
 
-use crate::copies::copy_key;
+use crate::copies::copy_conflicts;
 use fs_base::{Items, Memory};
 use key_schema::Key;
 use std::alloc::Global;
@@ -22,17 +22,6 @@ impl Model for Retry {
     ghost view = { λ r. record { attempts = r.attempts; conflicts = r.conflicts } };
 
     ghost invariant = { λ r. (1 ≤ r.attempts) × (r.attempts ≤ 64) };
-}
-
-/// Copies of conflicts, in the same order.
-fn copy_conflicts(alloc: Global, conflicts: &[(u64, Key)]) -> Result<Items<(u64, Key)>, Memory>
-    ensures { IfOk result (λ copies. copies ≡ conflicts.now) }
-{
-    let mut copies = Items::new(alloc);
-    for (version, key) in conflicts {
-        copies.push((*version, copy_key(alloc, key)?))?;
-    }
-    Ok(copies)
 }
 
 impl Retry {
