@@ -1,0 +1,8 @@
+use Rattle.client_core.specs.Awaiting.{Awaits}
+use Rattle.client_core.proofs.tests.tells.Given as goal
+
+abbrev pub invariant-loop-line : goal.invariant-loop-line
+invariant-loop-line g l =
+    (goal.iterator-loop-line g).can_next l.line-iterator ×
+    (goal.iterator-loop-line g).is_finite l.line-iterator ×
+    Awaits l.client.sent l.ask

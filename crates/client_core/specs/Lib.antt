@@ -1,0 +1,4 @@
+pub mod Awaiting
+pub mod Client
+pub mod Ops
+pub mod Plans

@@ -1,0 +1,44 @@
+-- The call of an operation, its time, and its request.
+use Rattle.std.specs.Prelude.{◌≡◌, ℕ, ◌+◌, true}
+use Rattle.byte_fields.specs.Forms.{are_bytes}
+use Rattle.fs_base.specs.declared.call.Call.{Call}
+use Rattle.fs_base.specs.declared.call.Call.TheVariants as calls
+use Rattle.fs_base.specs.declared.call.Request.{Request}
+use Rattle.client_core.specs.declared.plan.Op.{Op}
+use Rattle.client_core.specs.declared.plan.Op.TheVariants as ops
+use Rattle.client_core.specs.declared.plan.Script.{Script}
+
+abbrev pub call_of : Op → Call
+call_of (ops.Mkdir stamp place mode layout) = calls.Mkdir place mode layout
+call_of (ops.Create stamp place mode layout) = calls.Create place mode layout
+call_of (ops.Symlink stamp place target) = calls.Symlink place target
+call_of (ops.Setattr stamp place changes) = calls.Setattr place changes
+call_of (ops.Lookup stamp place) = calls.Lookup place
+call_of (ops.Stat stamp place) = calls.Stat place
+call_of (ops.List stamp place) = calls.List place
+call_of (ops.Readlink stamp place) = calls.Readlink place
+
+abbrev pub stamp_of : Op → ℕ
+stamp_of (ops.Mkdir stamp place mode layout) = stamp
+stamp_of (ops.Create stamp place mode layout) = stamp
+stamp_of (ops.Symlink stamp place target) = stamp
+stamp_of (ops.Setattr stamp place changes) = stamp
+stamp_of (ops.Lookup stamp place) = stamp
+stamp_of (ops.Stat stamp place) = stamp
+stamp_of (ops.List stamp place) = stamp
+stamp_of (ops.Readlink stamp place) = stamp
+
+-- an operation sends one request, to the client's server; the numbers count from 1
+abbrev pub request_of : Script → ℕ → Op → Request
+request_of script op step = record { server = script.home; client = script.id; number = op + 1; stamp = stamp_of step; call = call_of step }
+
+-- each text of the operation is one of bytes
+abbrev pub HasBytes : Op → Type 0
+HasBytes (ops.Mkdir stamp place mode layout) = are_bytes place.text ≡ true
+HasBytes (ops.Create stamp place mode layout) = are_bytes place.text ≡ true
+HasBytes (ops.Symlink stamp place target) = (are_bytes place.text ≡ true) × (are_bytes target ≡ true)
+HasBytes (ops.Setattr stamp place changes) = are_bytes place.text ≡ true
+HasBytes (ops.Lookup stamp place) = are_bytes place.text ≡ true
+HasBytes (ops.Stat stamp place) = are_bytes place.text ≡ true
+HasBytes (ops.List stamp place) = are_bytes place.text ≡ true
+HasBytes (ops.Readlink stamp place) = are_bytes place.text ≡ true

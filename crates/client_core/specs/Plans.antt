@@ -1,0 +1,78 @@
+-- What a plan keeps to.
+use Rattle.std.specs.Prelude.{◌≡◌, ◌⊎◌, ◌≤◌, ◌<◌, ◌+◌, ◌^◌, ℕ, List, [], ◌∷◌, length, slice_get, All, Option, Some, IfSome}
+use Rattle.fs_base.specs.declared.call.Changes.{Changes}
+use Rattle.fs_base.specs.declared.call.Place.{Place}
+use Rattle.fs_base.specs.declared.layout.DefaultLayout.{DefaultLayout}
+use Rattle.client_core.specs.declared.plan.Op.{Op}
+use Rattle.client_core.specs.declared.plan.Op.TheVariants as ops
+use Rattle.client_core.specs.declared.plan.Plan.{Plan}
+use Rattle.client_core.specs.declared.plan.Schedule.{Schedule}
+use Rattle.client_core.specs.declared.plan.Schedule.TheVariants.{Items}
+use Rattle.client_core.specs.declared.plan.Script.{Script}
+
+-- below the limit where it is given
+abbrev pub IsBelow : ℕ → Option ℕ → Type 0
+IsBelow limit given = IfSome given (λ n. n < limit)
+
+pub record IsPlace (place : Place) : Type 0 where
+  pub base_below : place.base < 2 ^ 36
+  pub text_short : length place.text ≤ 65535
+
+-- no limits of a layout but those of its numbers: BadLayout is the call's own answer
+pub record IsLayout (layout : DefaultLayout) : Type 0 where
+  pub chunk_below : layout.chunk < 2 ^ 32
+  pub stripe_below : layout.stripe < 2 ^ 16
+
+pub record IsChanges (changes : Changes) : Type 0 where
+  pub mode_below : IsBelow 4096 changes.mode
+  pub owner_below : IsBelow (2 ^ 32) changes.owner
+  pub group_below : IsBelow (2 ^ 32) changes.group
+  pub atime_below : IsBelow (2 ^ 53) changes.atime
+  pub mtime_below : IsBelow (2 ^ 53) changes.mtime
+
+-- each number and text is in its range
+abbrev pub IsOp : Op → Type 0
+IsOp (ops.Mkdir stamp place mode layout) = (stamp < 2 ^ 53) × IsPlace place × (mode < 4096) × IfSome layout IsLayout
+IsOp (ops.Create stamp place mode layout) = (stamp < 2 ^ 53) × IsPlace place × (mode < 4096) × IfSome layout IsLayout
+IsOp (ops.Symlink stamp place target) = (stamp < 2 ^ 53) × IsPlace place × (length target ≤ 65535)
+IsOp (ops.Setattr stamp place changes) = (stamp < 2 ^ 53) × IsPlace place × IsChanges changes
+IsOp (ops.Lookup stamp place) = (stamp < 2 ^ 53) × IsPlace place
+IsOp (ops.Stat stamp place) = (stamp < 2 ^ 53) × IsPlace place
+IsOp (ops.List stamp place) = (stamp < 2 ^ 53) × IsPlace place
+IsOp (ops.Readlink stamp place) = (stamp < 2 ^ 53) × IsPlace place
+
+-- ---- scripts
+
+-- an id of 16 bytes, a server of the configuration, and few operations, each in its ranges
+pub record IsScript (servers : ℕ) (script : Script) : Type 0 where
+  pub small : script.id.0 < 2 ^ 128
+  pub home : script.home < servers
+  pub short : length script.ops ≤ 4000
+  pub valid : All IsOp script.ops
+
+-- clients with one id are one
+abbrev pub AreDistinct : List Script → Type 0
+AreDistinct scripts = (j k : ℕ) (a b : Script) → slice_get scripts j ≡ Some a → slice_get scripts k ≡ Some b → a.id ≡ b.id → j ≡ k
+
+abbrev pub ops_in : List Script → ℕ
+ops_in [] = 0
+ops_in (script ∷ scripts) = length script.ops + ops_in scripts
+
+-- ---- schedules
+
+-- a turn, or a whole operation, of one of so many clients
+abbrev pub NamesClient : ℕ → ℕ → Type 0
+NamesClient count item = (item < count) ⊎ ((k : ℕ) × (item ≡ 100 + k) × (k < count))
+
+abbrev pub IsSchedule : ℕ → Schedule → Type 0
+IsSchedule count (Items items) = All (NamesClient count) items
+
+pub record IsPlan (plan : Plan) : Type 0 where
+  pub attempts_from : 1 ≤ plan.attempts
+  pub attempts_to : plan.attempts ≤ 64
+  pub some : 1 ≤ length plan.clients
+  pub few : length plan.clients ≤ 64
+  pub scripts : All (IsScript plan.config.servers) plan.clients
+  pub distinct : AreDistinct plan.clients
+  pub short : ops_in plan.clients ≤ 4000
+  pub schedule : IsSchedule (length plan.clients) plan.schedule

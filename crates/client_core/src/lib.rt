@@ -1,0 +1,13 @@
+//! Plans, and what a client of one asks for, step by step.
+#![tactic(auto)]
+
+mod messages;
+mod plan;
+mod state;
+mod steps;
+#[cfg(test)]
+mod tests;
+
+pub use messages::{ClientAnswer, ClientAsk};
+pub use plan::{Op, Plan, Schedule, Script};
+pub use state::ClientState;

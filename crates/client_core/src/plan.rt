@@ -1,0 +1,82 @@
+use fs_base::{Changes, ClientId, Config, DefaultLayout, Items, Place, Text};
+
+/// One operation of a client. A stamp is the client's time, below 2^53, in a unit that the clients agree on.
+///
+/// A mode is the twelve permission bits of POSIX, below 4,096; a text has at most 65,535 bytes.
+#[derive(Debug, Drop)]
+pub enum Op {
+    /// Makes a directory, with a default layout of its own or its parent's.
+    Mkdir {
+        stamp: u64,
+        place: Place,
+        mode: u16,
+        layout: Option<DefaultLayout>,
+    },
+    /// Makes an empty file, with a chunk and stripe of its own or its directory's.
+    Create {
+        stamp: u64,
+        place: Place,
+        mode: u16,
+        layout: Option<DefaultLayout>,
+    },
+    /// Makes a symbolic link.
+    Symlink {
+        stamp: u64,
+        place: Place,
+        target: Text,
+    },
+    /// Sets attributes: those that are given.
+    Setattr {
+        stamp: u64,
+        place: Place,
+        changes: Changes,
+    },
+    /// What stands at a place.
+    Lookup {
+        stamp: u64,
+        place: Place,
+    },
+    /// The attributes of what stands at a place.
+    Stat {
+        stamp: u64,
+        place: Place,
+    },
+    /// A directory's entries.
+    List {
+        stamp: u64,
+        place: Place,
+    },
+    /// A link's target.
+    Readlink {
+        stamp: u64,
+        place: Place,
+    },
+}
+
+/// What a client does, in order.
+#[derive(Debug, Drop)]
+pub struct Script {
+    /// No two clients of a plan have the same.
+    pub id: ClientId,
+    /// The server that it sends to.
+    pub home: u8,
+    pub ops: Items<Op>,
+}
+
+/// The order of turns.
+#[derive(Debug, Drop)]
+pub enum Schedule {
+    /// `k` is one turn of client k, and `100 + k` is one whole operation of client k.
+    Items(Items<u16>),
+}
+
+/// What a run does.
+#[derive(Debug, Drop)]
+pub struct Plan {
+    pub config: Config,
+    /// How often a request may try to commit, 1 to 64.
+    pub attempts: u8,
+    /// Each client at its ordinal, 1 to 64 of them.
+    pub clients: Items<Script>,
+    pub schedule: Schedule,
+}

@@ -1,0 +1,145 @@
+//! Scripts told ask by ask. Expected asks are worked out from the form of requests and receipts.
+
+ghost use Rattle.std.specs.Prelude.{◌≡◌, ◌≤◌, false, length, All, IfOk};
+ghost use Rattle.client_core.specs.Awaiting.{Awaits};
+ghost use Rattle.client_core.specs.Client.{Fits};
+ghost use Rattle.client_core.specs.Plans.{IsOp, IsPlace};
+
+use crate::messages::{ClientAnswer, ClientAsk};
+use crate::plan::{Op, Script};
+use crate::state::ClientState;
+use fs_base::{ClientId, Code, Config, InodeId, Items, Memory, Place, Reply, Text};
+use key_schema::Key;
+use std::alloc::Global;
+use std::process::Abort;
+use std::test::Fail;
+use txn_task::Outcome;
+
+/// How many operations have ended, whether the client has, and its ask, a line each. `AT` is the place of the path `/a`
+/// from the root.
+const TOLD: &str =
+    r#"0 false Send { server: 2, request: Request { server: 2, client: ClientId(9), number: 1, stamp: 5, call: Stat(AT) } }
+1 false CallEnd { receipts: Items { items: [Receipt { op: 0, number: Some(1), server: Some(1), stamp: 5, call: Stat(AT), reply: Made(InodeId { value: 40 }), committed: true, version: 6, conflicts: Items { items: [(4, Alloc(1))] }, gone: Items { items: [] } }] }, op_ends: true }
+1 false Send { server: 2, request: Request { server: 2, client: ClientId(9), number: 2, stamp: 7, call: List(AT) } }
+2 true CallEnd { receipts: Items { items: [Receipt { op: 1, number: Some(2), server: Some(1), stamp: 7, call: List(AT), reply: Refused(NotDir), committed: false, version: 8, conflicts: Items { items: [] }, gone: Items { items: [] } }] }, op_ends: true }
+2 true Ended
+2 true Ended"#;
+
+fn place(alloc: Global) -> Result<Place, Memory>
+    ensures { IfOk result (λ place. IsPlace place) }
+{
+    Ok(Place {
+        base: InodeId::root(),
+        text: Text::from_slice(alloc, b"/a")?,
+    })
+}
+
+/// A `stat` at time 5, and a `list` at time 7.
+fn two(alloc: Global) -> Result<Items<Op>, Memory>
+    ensures few { IfOk result (λ ops. length ops ≤ 4000) }
+    ensures valid { IfOk result (λ ops. All IsOp ops) }
+{
+    let mut ops = Items::new(alloc);
+    let place = place(alloc)?;
+    ops.push(Op::Stat { stamp: 5, place })?;
+    let place = self::place(alloc)?;
+    ops.push(Op::List { stamp: 7, place })?;
+    Ok(ops)
+}
+
+/// A client of server 2 of three.
+fn client(alloc: Global, ops: Items<Op>) -> Result<ClientState, Fail>
+    requires few { length ops ≤ 4000 }
+    requires valid { All IsOp ops }
+    ensures { IfOk result (λ client. client.sent ≡ false) }
+{
+    let config = Config::new(3, 1, 1, 1, 1).ok_or("no configuration")?;
+    Ok(ClientState::new(
+        alloc,
+        Script {
+            id: ClientId(9),
+            home: 2,
+            ops,
+        },
+        config,
+    )?)
+}
+
+/// The first request meets a conflict with the key of an inode and is committed; another one is refused.
+fn outcome(alloc: Global, number: u64) -> Result<Outcome, Memory> {
+    let mut conflicts = Items::new(alloc);
+    if number != 1 {
+        return Ok(Outcome {
+            reply: Reply::Refused(Code::NotDir),
+            version: 8,
+            committed: false,
+            conflicts,
+        });
+    }
+    conflicts.push((4, Key::Alloc(1)))?;
+    Ok(Outcome {
+        reply: Reply::Made(InodeId::new(40)),
+        version: 6,
+        committed: true,
+        conflicts,
+    })
+}
+
+fn next(client: &mut ClientState, answer: ClientAnswer) -> Result<ClientAsk, Memory>
+    requires { Fits client.old.sent answer }
+    ensures { IfOk result (λ ask. Awaits client.new.sent ask) }
+{
+    let ask = client.next(answer)?;
+    Ok(ask)
+}
+
+/// The next ask. Server 1 does each request.
+fn turn(alloc: Global, client: &mut ClientState, ask: ClientAsk) -> Result<ClientAsk, Memory>
+    requires { Awaits client.old.sent ask }
+    ensures { IfOk result (λ ask. Awaits client.new.sent ask) }
+{
+    match ask {
+        ClientAsk::Send { request, .. } => {
+            let outcome = outcome(alloc, request.number)?;
+            let ask = next(client, ClientAnswer::Replied(1, outcome))?;
+            Ok(ask)
+        }
+        _ => {
+            let ask = next(client, ClientAnswer::Next)?;
+            Ok(ask)
+        }
+    }
+}
+
+/// The client's asks, a line each: how many operations have ended, whether all have, and the ask.
+fn tells(rt: &(impl Abort + AllocGlobal), mut client: ClientState, want: &str) -> Result<(), Fail>
+    requires { client.sent ≡ false }
+{
+    let alloc = rt.alloc();
+    let mut ask = next(&mut client, ClientAnswer::Start)?;
+    for line in want.split('\n') {
+        let ended = client.has_ended();
+        let got = format!(in alloc; "{} {ended} {ask:?}", client.ended_ops())?;
+        assert_eq!(rt; got.as_str(), line);
+        ask = turn(alloc, &mut client, ask)?;
+    }
+    Ok(())
+}
+
+#[test]
+fn each_operation_is_a_request_and_ends_with_a_receipt(rt: HostRuntime) -> Result<(), Fail> {
+    let alloc = rt.alloc();
+    let client = client(alloc, two(alloc)?)?;
+    assert!(rt; !client.has_ended());
+    let at = "Place { base: InodeId { value: 0 }, text: Items { items: [47, 97] } }";
+    let want = TOLD.replace(alloc, "AT", at)?;
+    tells(&rt, client, want.as_str())
+}
+
+#[test]
+fn a_script_without_operations_has_ended(rt: HostRuntime) -> Result<(), Fail> {
+    let alloc = rt.alloc();
+    let client = client(alloc, Items::new(alloc))?;
+    assert!(rt; client.has_ended());
+    tells(&rt, client, "0 true Ended\n0 true Ended")
+}
