@@ -3,9 +3,9 @@ use Rattle.std.proofs.Common.{◌≡◌, ℕ, List, true, Option, Some, None, sy
 use Rattle.std.specs.Prelude.{Ok, Err, String}
 use Rattle.std.specs.Io.KnownBytes.{Appends, Keeps}
 use Rattle.std.specs.declared.alloc.Global.{Global}
+use Rattle.client_core.specs.declared.plan.Plan.{Plan}
 use Rattle.fs_io.specs.Reading.{ReadsToEnd, PassesLimit}
 use Rattle.scenario.specs.declared.broken.Broken.{Broken}
-use Rattle.scenario.specs.declared.plan.Plan.{Plan}
 use Rattle.scenario.specs.Broken.{rule}
 use Rattle.scenario.specs.Scenario.{scenario_of}
 use Rattle.scenario.proofs.Rules.{breaks_rule_1}

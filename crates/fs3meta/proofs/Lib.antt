@@ -1,7 +1,1 @@
-pub mod Asking
 pub mod Due
-pub mod Effects
-pub mod Fits
-pub mod Marks
-pub mod Running
-pub mod Served

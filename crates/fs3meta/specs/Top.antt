@@ -5,15 +5,15 @@ use Rattle.std.specs.Io.KnownBytes.{Appends, Consumes, IsAtEnd, Keeps}
 use Rattle.std.specs.declared.alloc.Global.{Global}
 use Rattle.fs_io.specs.Causes.{Rose}
 use Rattle.fs_io.specs.Reading.{ReadsToEnd}
+use Rattle.client_core.specs.declared.plan.Plan.{Plan}
 use Rattle.run_record.specs.Replies.{replies_text}
+use Rattle.run_record.specs.Right.{IsRight}
 use Rattle.run_record.specs.Words.{line, setting}
+use Rattle.run_record.specs.declared.run.Record.{Record}
 use Rattle.scenario.specs.declared.broken.Broken.{Broken}
-use Rattle.scenario.specs.declared.plan.Plan.{Plan}
-use Rattle.scenario.specs.declared.plan.Script.{Script}
 use Rattle.scenario.specs.Scenario.{scenario_of}
 use Rattle.fs3meta.specs.declared.top.Status.{Status}
 use Rattle.fs3meta.specs.declared.top.Status.TheVariants as status
-use Rattle.fs3meta.specs.Run.{record_of}
 
 abbrev pub is_step : List (String Global) → Bool
 is_step [] = false
@@ -26,11 +26,11 @@ usage_line = line (codes "usage:" ∷ codes "fs3meta" ∷ codes "check," ∷ cod
 abbrev pub bad_line : Broken → List ℕ
 bad_line broken = line (codes "bad" ∷ setting (codes "rule=") broken.rule ∷ setting (codes "place=") broken.place ∷ [])
 
--- the text is that of the run of the plan, which has one client
+-- the text is that of a record which is right for the plan
 pub record IsRunOf (plan : Plan) (text : List ℕ) : Type 0 where
-  pub script : Script
-  pub alone : plan.clients ≡ script ∷ []
-  pub written : text ≡ replies_text (record_of plan.config script)
+  pub run : Record
+  pub right : IsRight plan run
+  pub written : text ≡ replies_text run
 
 -- the input reads as a plan, and the text is that of its run
 pub record IsRun (old new : Option (List ℕ)) (text : List ℕ) : Type 0 where

@@ -1,8 +1,6 @@
 //! The program `fs3meta`: steps a scenario, and writes the replies.
 #![tactic(auto)]
 
-mod run;
-mod serve;
 mod top;
 
 use crate::top::{Status, plain_main};

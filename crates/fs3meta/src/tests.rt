@@ -187,6 +187,89 @@ reply 0 16 17 0 seen 2 mkdir NotDir
 end ops=17 commits=2 conflicts=0 stops=0 waiting=0
 "#;
 
+/// A whole scenario, with `U1` and `U2` for two ids, and behind a blank line the whole text of its run. Both clients make
+/// the same file, turn about: each reads before the other commits.
+const COLLIDE: &str = r#"{"servers":2,"schedule":[0,1,0,1,0,1,0,1,0,1,0,1],"clients":[
+{"id":"U1","ops":[{"op":"create","path":"/x"}]},
+{"id":"U2","ops":[{"op":"create","path":"/x"}]}]}
+
+fs3 1 servers=2 nodes=1 chains=1 chunk=1048576 stripe=1
+reply 0 0 1 0 commit 1 create made 16
+conflict 1 0 1 1 1 44454e54000000000000000078
+reply 1 0 1 1 seen 1 create Exists
+end ops=2 commits=1 conflicts=1 stops=0 waiting=0
+"#;
+
+/// A request that may try once.
+const ONE_ATTEMPT: &str = r#"{"servers":2,"attempts":1,"schedule":[0,1,0,1,0,1,0,1],"clients":[
+{"id":"U1","ops":[{"op":"setattr","path":"/","mode":448}]},
+{"id":"U2","ops":[{"op":"setattr","path":"/","mode":511},{"op":"setattr","path":"/","mode":511}]}]}
+
+fs3 1 servers=2 nodes=1 chains=1 chunk=1048576 stripe=1
+reply 0 0 1 0 commit 1 setattr done
+conflict 1 0 1 1 1 494e4f440000000000000000
+reply 1 0 1 1 seen 0 setattr Conflict
+reply 1 1 2 1 commit 2 setattr done
+end ops=3 commits=2 conflicts=1 stops=0 waiting=0
+"#;
+
+/// The other client is first.
+const OTHER_FIRST: &str = r#"{"servers":2,"schedule":[101,100],"clients":[
+{"id":"U1","ops":[{"op":"create","path":"/x"}]},
+{"id":"U2","ops":[{"op":"create","path":"/x"}]}]}
+
+fs3 1 servers=2 nodes=1 chains=1 chunk=1048576 stripe=1
+reply 0 0 1 0 seen 1 create Exists
+reply 1 0 1 1 commit 1 create made 17
+end ops=2 commits=1 conflicts=0 stops=0 waiting=0
+"#;
+
+/// Without a schedule the clients go in their order.
+const ROUNDS: &str = r#"{"servers":2,"clients":[
+{"id":"U1","ops":[{"op":"create","path":"/x"}]},
+{"id":"U2","ops":[{"op":"create","path":"/x"}]}]}
+
+fs3 1 servers=2 nodes=1 chains=1 chunk=1048576 stripe=1
+reply 0 0 1 0 commit 1 create made 16
+reply 1 0 1 1 seen 1 create Exists
+end ops=2 commits=1 conflicts=0 stops=0 waiting=0
+"#;
+
+/// Client 0 has made all its asks but the commit when client 1 does its whole operation.
+const BEFORE_THE_COMMIT: &str = r#"{"servers":2,"schedule":[0,0,0,0,0,101],"clients":[
+{"id":"U1","ops":[{"op":"create","path":"/x"}]},
+{"id":"U2","ops":[{"op":"create","path":"/x"}]}]}
+
+fs3 1 servers=2 nodes=1 chains=1 chunk=1048576 stripe=1
+conflict 0 0 1 1 1 44454e54000000000000000078
+reply 0 0 1 0 seen 1 create Exists
+reply 1 0 1 1 commit 1 create made 17
+end ops=2 commits=1 conflicts=1 stops=0 waiting=0
+"#;
+
+/// Client 0 has ended when its turns 0 and 100 come. One server makes both files: its inodes are 16 apart.
+const ENDED: &str = r#"{"servers":2,"schedule":[100,0,100,1],"clients":[
+{"id":"U1","home":1,"ops":[{"op":"create","path":"/a"}]},
+{"id":"U2","home":1,"ops":[{"op":"create","path":"/b"}]}]}
+
+fs3 1 servers=2 nodes=1 chains=1 chunk=1048576 stripe=1
+reply 0 0 1 1 commit 1 create made 17
+reply 1 0 1 1 commit 2 create made 33
+end ops=2 commits=2 conflicts=0 stops=0 waiting=0
+"#;
+
+/// The same turn about: both take the server's next number, so the later one conflicts on it.
+const ONE_HOME: &str = r#"{"servers":2,"schedule":[0,1,0,1,0,1,0,1,0,1,0,1],"clients":[
+{"id":"U1","home":1,"ops":[{"op":"create","path":"/a"}]},
+{"id":"U2","home":1,"ops":[{"op":"create","path":"/b"}]}]}
+
+fs3 1 servers=2 nodes=1 chains=1 chunk=1048576 stripe=1
+reply 0 0 1 1 commit 1 create made 17
+conflict 1 0 1 1 1 414c4f4301
+reply 1 0 1 1 commit 2 create made 33
+end ops=2 commits=2 conflicts=1 stops=0 waiting=0
+"#;
+
 const NONE: &str = "
 
 end ops=0 commits=0 conflicts=0 stops=0 waiting=0
@@ -209,7 +292,7 @@ const NOT_BUILT: &str = r#"{}
 7
 {"clients":[]}
 {"clients":7}
-{"clients":[{"id":"I","ops":[]}],"servers":1}
+{"clients":[{"id":"I","ops":[]}],"servers":17}
 {"clients":[{"id":"I","ops":[]}],"servers":1.0}
 {"clients":[{"id":"I","ops":[]}],"servers":-1}
 {"clients":[{"id":"00000000-0000-0000-0000-000000000000","ops":[]}]}
@@ -218,7 +301,7 @@ const NOT_BUILT: &str = r#"{}
 {"clients":[{"ops":[]}]}
 {"clients":[{"id":"I"}]}
 {"clients":[{"id":"I","ops":{}}]}
-{"clients":[{"id":"I","ops":[],"home":0}]}
+{"clients":[{"id":"I","ops":[],"home":1}]}
 {"clients":[{"id":"I","ops":[{"op":"unlink","path":"/"}]}]}
 {"clients":[{"id":"I","ops":[{"op":"mkdir"}]}]}
 {"clients":[{"id":"I","ops":[{"op":"mkdir","path":"/a","mode":4096}]}]}
@@ -274,6 +357,31 @@ fn replies(rt: &(impl Abort + AllocGlobal), case: &str) -> Result<(), Fail> {
     let input = bytes_of(rt.alloc(), &[BEGIN, ops, END])?;
     let text = bytes_of(rt.alloc(), &[HEADER, lines])?;
     steps(rt, input.as_slice(), 4096, Status::Ok, text.as_slice())
+}
+
+/// The scenario above the blank line comes to the text below it.
+fn runs(rt: &(impl Abort + AllocGlobal), case: &str) -> Result<(), Fail> {
+    let alloc = rt.alloc();
+    let (input, text) = case.split_once("\n\n").ok_or("no blank line")?;
+    let input = input.replace(alloc, "U1", "00000000-0000-4000-8000-000000000001")?;
+    let input = input.replace(alloc, "U2", "00000000-0000-4000-8000-000000000002")?;
+    steps(rt, input.as_bytes(), 4096, Status::Ok, text.as_bytes())
+}
+
+#[test]
+fn two_clients_over_one_store(rt: HostRuntime) -> Result<(), Fail> {
+    for case in [
+        COLLIDE,
+        ONE_ATTEMPT,
+        OTHER_FIRST,
+        ROUNDS,
+        BEFORE_THE_COMMIT,
+        ENDED,
+        ONE_HOME,
+    ] {
+        runs(&rt, case)?;
+    }
+    Ok(())
 }
 
 #[test]

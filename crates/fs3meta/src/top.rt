@@ -1,13 +1,15 @@
 ghost use Rattle.std.specs.Prelude.{◌≡◌, ◌∷◌, [], false, IsTrue, IfOk, IfErr, Err, string_bytes};
 ghost use Rattle.fs_io.specs.Reading.{TellsFault};
-ghost use Rattle.scenario.specs.Plan.{HasOneScript, IsScript};
+ghost use Rattle.client_core.specs.Plans.{IsPlan};
 ghost use Rattle.fs3meta.specs.Top.{is_step, usage_line, bad_line, IsRunOf, IsDue, CallsFor, TellsReadFault, TellsWriteFault, Writes};
 
-use crate::run::run;
+use client_core::Plan;
+use fs_base::Memory;
 use fs_io::{ReadAllError, Sink, Source, read_all, write_all};
 use run_record::write_replies;
-use scenario::{Broken, Plan, ScenarioError, Script, read_scenario, too_long};
+use scenario::{Broken, ScenarioError, read_scenario, too_long};
 use std::alloc::{AllocError, Global};
+use world_core::World;
 
 /// How a run of the program ends. The numbers 0 to 6, in this order, are its exit statuses.
 #[derive(Clone, Copy, Debug, PartialEq, Eq)]
@@ -37,8 +39,9 @@ pub fn plain_main<I: Source, O: Sink>(
     input: &mut I,
     output: &mut O,
 ) -> Status
-    // What is written at each status. At `Ok` the source's bytes read as a plan, and the text is the header,
-    // a line for each operation with the plain tree's reply, and the counts; at `Bad` it names the first broken rule.
+    // What is written at each status. At `Ok` the source's bytes read as a plan, and the text is that of a record which
+    // is right for the plan: its entries are a history of the plain tree, and each receipt is owed to them.
+    // At `Bad` the text names the first broken rule.
     ensures writes { Writes (IsDue words.now (I.left input.old) (I.left input.new))
         (O.written output.old) (O.written output.new) result }
 
@@ -112,36 +115,34 @@ fn step(alloc: Global, bytes: &[u8]) -> Result<Answer, ReadAllError>
     ensures err { IfErr result (λ e. e ≡ ReadAllError.Memory) }
 {
     match read_scenario(alloc, bytes) {
-        Ok(plan) => replies(alloc, &plan),
+        Ok(plan) => replies(alloc, plan),
         Err(ScenarioError::BadScenario(broken)) => bad(alloc, broken),
         Err(ScenarioError::Memory) => Err(ReadAllError::Memory),
     }
 }
 
-fn only_script(plan: &Plan) -> &Script
-    requires { HasOneScript plan.now }
-    ensures alone { plan.now.clients ≡ result.now ∷ [] }
-    ensures valid { IsScript result.now }
+fn replies(alloc: Global, plan: Plan) -> Result<Answer, ReadAllError>
+    requires { IsPlan plan }
+    ensures ok { IfOk result (λ a. (a.status ≡ Status.Ok) × IsRunOf plan a.text.items) }
+    ensures err { IfErr result (λ e. e ≡ ReadAllError.Memory) }
 {
-    &plan.clients.as_slice()[0]
+    match run_text(alloc, plan) {
+        Ok(text) => Ok(Answer {
+            status: Status::Ok,
+            text,
+        }),
+        Err(Memory) => Err(ReadAllError::Memory),
+    }
 }
 
 /// The text of a plan's run.
-fn replies(alloc: Global, plan: &Plan) -> Result<Answer, ReadAllError>
-    requires { HasOneScript plan.now }
-    ensures ok { IfOk result (λ a. (a.status ≡ Status.Ok) × IsRunOf plan.now a.text.items) }
-    ensures err { IfErr result (λ e. e ≡ ReadAllError.Memory) }
+fn run_text(alloc: Global, plan: Plan) -> Result<Vec<u8>, Memory>
+    requires { IsPlan plan }
+    ensures { IfOk result (λ text. IsRunOf plan text.items) }
 {
-    let Ok(run) = run(alloc, plan.config, only_script(plan)) else {
-        return Err(ReadAllError::Memory);
-    };
-    let Ok(text) = write_replies(alloc, &run) else {
-        return Err(ReadAllError::Memory);
-    };
-    Ok(Answer {
-        status: Status::Ok,
-        text,
-    })
+    let world = World::new(alloc, plan)?;
+    let run = world.run()?;
+    write_replies(alloc, &run)
 }
 
 fn bad(alloc: Global, broken: Broken) -> Result<Answer, ReadAllError>

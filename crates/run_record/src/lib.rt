@@ -5,8 +5,10 @@ mod hex;
 mod replies;
 mod reply_text;
 mod run;
+mod summary;
 #[cfg(test)]
 mod tests;
 
 pub use replies::write_replies;
-pub use run::{Listed, Receipt, Record, Summary};
+pub use run::{Listed, Record, Summary};
+pub use summary::summary_of;

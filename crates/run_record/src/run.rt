@@ -1,28 +1,12 @@
-use fs_base::{Call, ClientId, Config, Items, Reply};
+use fs_base::{ClientId, Config, Items};
+use txn_task::{Entry, Receipt};
 
-/// What a client keeps of a call.
-#[derive(Debug, Drop)]
-pub struct Receipt {
-    /// The call's place in its client's script, from 0.
-    pub op: u16,
-    /// The request's number, the client's own. `None` where the client ended the call itself.
-    pub number: Option<u64>,
-    /// The server that answered, where one did.
-    pub server: Option<u8>,
-    /// The time that the client gave the call.
-    pub stamp: u64,
-    pub call: Call,
-    pub reply: Reply,
-    /// Whether the reply is that of a commit. If not, it is what was seen at the version.
-    pub committed: bool,
-    /// The version that the commit made, or that was seen.
-    pub version: u64,
-}
-
-/// A receipt with its client's ordinal.
+/// A receipt with its client's ordinal, and what the client had seen as its call began.
 #[derive(Debug, Drop)]
 pub struct Listed {
     pub client: u16,
+    /// The length of the journal, and then how much each storage node had done.
+    pub fronts: Items<u64>,
     pub receipt: Receipt,
 }
 
@@ -42,6 +26,9 @@ pub struct Record {
     pub config: Config,
     /// Each client at its ordinal.
     pub clients: Items<ClientId>,
+    /// Client by client, in the order of their calls.
     pub receipts: Items<Listed>,
+    /// The journal.
+    pub entries: Items<Entry>,
     pub summary: Summary,
 }

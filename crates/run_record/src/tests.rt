@@ -7,8 +7,10 @@ use fs_base::{
     Attributes, Call, Changes, Code, Config, DataRun, DeletionPhase, DirEntry, DoomedInode,
     FileInfo, InodeId, Items, Kind, Layout, Limit, Memory, Place, Reply, Session, Text,
 };
+use key_schema::Key;
 use std::alloc::Global;
 use std::test::Fail;
+use txn_task::Receipt;
 
 const TEXT: &str = "fs3 1 servers=1 nodes=1 chains=1 chunk=1048576 stripe=1
 reply 0 3 - - commit 9 lookup done
@@ -88,6 +90,13 @@ reply 1 4 7 2 seen 8 sweep Conflict
 reply 1 4 7 2 seen 8 sweep StoreFull
 reply 1 4 7 2 seen 8 sweep NodeFull node=3 written=4
 reply 1 4 7 2 seen 8 sweep Removed version=5 written=6
+conflict 1 4 7 1 12 494e4f440201000000000000
+conflict 1 4 7 2 15 414c4f4303
+reply 1 4 7 2 seen 8 sweep done
+gone 1 4 7 3 1
+gone 1 4 7 0 11
+conflict 1 4 7 1 20 47434f4c0000000000000000
+reply 1 4 7 2 seen 8 sweep done
 end ops=2 commits=1 conflicts=5 stops=6 waiting=7
 ";
 
@@ -315,15 +324,15 @@ fn runs(alloc: Global) -> Result<Reply, Memory> {
 
 /// Lists of none and of two, and texts.
 fn lists(alloc: Global, receipts: &mut Items<Listed>) -> Result<(), Memory> {
-    receipts.push(seen(Reply::Names(Items::new(alloc))))?;
-    receipts.push(seen(files(alloc)?))?;
-    receipts.push(seen(odd_names(alloc)?))?;
-    receipts.push(seen(Reply::Target(Text::from_slice(alloc, b"l1")?)))?;
-    receipts.push(seen(Reply::Target(Text::new(alloc))))?;
-    receipts.push(seen(Reply::Doomed(Items::new(alloc))))?;
-    receipts.push(seen(doomed(alloc)?))?;
-    receipts.push(seen(Reply::Data(Items::new(alloc))))?;
-    receipts.push(seen(runs(alloc)?))?;
+    receipts.push(seen(alloc, Reply::Names(Items::new(alloc))))?;
+    receipts.push(seen(alloc, files(alloc)?))?;
+    receipts.push(seen(alloc, odd_names(alloc)?))?;
+    receipts.push(seen(alloc, Reply::Target(Text::from_slice(alloc, b"l1")?)))?;
+    receipts.push(seen(alloc, Reply::Target(Text::new(alloc))))?;
+    receipts.push(seen(alloc, Reply::Doomed(Items::new(alloc))))?;
+    receipts.push(seen(alloc, doomed(alloc)?))?;
+    receipts.push(seen(alloc, Reply::Data(Items::new(alloc))))?;
+    receipts.push(seen(alloc, runs(alloc)?))?;
     Ok(())
 }
 
@@ -365,9 +374,10 @@ fn refusals() -> [Code; 26] {
 }
 
 /// A call that its client ended itself, and was committed as the ninth.
-fn ended(call: Call) -> Listed {
+fn ended(alloc: Global, call: Call) -> Listed {
     Listed {
         client: 0,
+        fronts: Items::new(alloc),
         receipt: Receipt {
             op: 3,
             number: None,
@@ -377,14 +387,27 @@ fn ended(call: Call) -> Listed {
             reply: Reply::Done,
             committed: true,
             version: 9,
+            conflicts: Items::new(alloc),
+            gone: Items::new(alloc),
         },
     }
 }
 
 /// A reply of server 2 that was seen.
-fn seen(reply: Reply) -> Listed {
+fn seen(alloc: Global, reply: Reply) -> Listed {
+    after(alloc, reply, Items::new(alloc), Items::new(alloc))
+}
+
+/// The same after conflicts and stops.
+fn after(
+    alloc: Global,
+    reply: Reply,
+    conflicts: Items<(u64, Key)>,
+    gone: Items<(u8, u32)>,
+) -> Listed {
     Listed {
         client: 1,
+        fronts: Items::new(alloc),
         receipt: Receipt {
             op: 4,
             number: Some(7),
@@ -394,8 +417,26 @@ fn seen(reply: Reply) -> Listed {
             reply,
             committed: false,
             version: 8,
+            conflicts,
+            gone,
         },
     }
+}
+
+fn two_conflicts(alloc: Global) -> Result<Listed, Memory> {
+    let mut conflicts = Items::new(alloc);
+    conflicts.push((12, Key::Inode(InodeId::new(258))))?;
+    conflicts.push((15, Key::Alloc(3)))?;
+    Ok(after(alloc, Reply::Done, conflicts, Items::new(alloc)))
+}
+
+fn two_stops(alloc: Global) -> Result<Listed, Memory> {
+    let mut conflicts = Items::new(alloc);
+    conflicts.push((20, Key::Gc(InodeId::root())))?;
+    let mut gone = Items::new(alloc);
+    gone.push((3, 1))?;
+    gone.push((0, 11))?;
+    Ok(after(alloc, Reply::Done, conflicts, gone))
 }
 
 #[test]
@@ -403,25 +444,28 @@ fn each_call_reply_and_refusal_has_its_text(rt: HostRuntime) -> Result<(), Fail>
     let alloc = rt.alloc();
     let mut receipts = Items::new(alloc);
     for call in queries(alloc) {
-        receipts.push(ended(call))?;
+        receipts.push(ended(alloc, call))?;
     }
     for call in changes(alloc) {
-        receipts.push(ended(call))?;
+        receipts.push(ended(alloc, call))?;
     }
     for call in contents(alloc) {
-        receipts.push(ended(call))?;
+        receipts.push(ended(alloc, call))?;
     }
     for reply in numbers() {
-        receipts.push(seen(reply))?;
+        receipts.push(seen(alloc, reply))?;
     }
     lists(alloc, &mut receipts)?;
     for code in refusals() {
-        receipts.push(seen(Reply::Refused(code)))?;
+        receipts.push(seen(alloc, Reply::Refused(code)))?;
     }
+    receipts.push(two_conflicts(alloc)?)?;
+    receipts.push(two_stops(alloc)?)?;
     let run = Record {
         config: Config::single(),
         clients: Items::new(alloc),
         receipts,
+        entries: Items::new(alloc),
         summary: Summary {
             ops: 2,
             commits: 1,

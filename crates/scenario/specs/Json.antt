@@ -25,3 +25,6 @@ text_at name d = option_and_then as_str (get name d)
 
 abbrev pub array_at : List ℕ → Data → Option (List Data)
 array_at name d = option_map list_of (option_and_then as_array (get name d))
+
+abbrev pub array_in : Data → Option (List Data)
+array_in d = option_map list_of (as_array d)

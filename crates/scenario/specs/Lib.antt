@@ -2,5 +2,5 @@ pub mod Broken
 pub mod Json
 pub mod Numbers
 pub mod Ops
-pub mod Plan
 pub mod Scenario
+pub mod Schedule

@@ -14,8 +14,8 @@ use Rattle.scenario.specs.declared.broken.Broken.{Broken}
 use Rattle.scenario.specs.declared.ops.Making.{Making}
 use Rattle.scenario.specs.declared.ops.OpKind.{OpKind}
 use Rattle.scenario.specs.declared.ops.OpKind.TheVariants as kinds
-use Rattle.scenario.specs.declared.plan.Op.{Op}
-use Rattle.scenario.specs.declared.plan.Op.TheVariants as ops
+use Rattle.client_core.specs.declared.plan.Op.{Op}
+use Rattle.client_core.specs.declared.plan.Op.TheVariants as ops
 
 abbrev pub named : List ℕ → List (List ℕ × OpKind) → Option OpKind
 named name [] = None

@@ -1,5 +1,6 @@
 -- The plan that the bytes of a scenario read as, or the first rule that they break.
-use Rattle.std.specs.Prelude.{ℕ, ◌==◌, List, [], ◌∷◌, length, nat_le, nat_lt, Option, Some, None, option_and_then, Result, Ok, Err, codes, if◌then◌else◌}
+use Rattle.std.specs.Prelude.{ℕ, ◌==◌, ◌%◌, ◌&&◌, not, Bool, true, List, [], ◌∷◌, length, nat_le, nat_lt, Option, Some, None, option_and_then, Result, Ok, Err, codes, if◌then◌else◌}
+use Rattle.std.specs.List.{list_any}
 use Rattle.std.specs.Option.{ok_or}
 use Rattle.std.specs.Str.{is_utf8}
 use Rattle.std.specs.Int.{w128, from_be_bytes}
@@ -12,12 +13,14 @@ use Rattle.uuid.specs.Text.{parsed}
 use Rattle.uuid.specs.Parts.{is_nil_bytes}
 use Rattle.scenario.specs.Broken.{rule, not_built, need}
 use Rattle.scenario.specs.Json.{has_only, text_at, array_at}
-use Rattle.scenario.specs.Numbers.{count_or}
+use Rattle.scenario.specs.Numbers.{count_or, number_or}
 use Rattle.scenario.specs.Ops.{op_of}
+use Rattle.scenario.specs.Schedule.{schedule_of}
 use Rattle.scenario.specs.declared.broken.Broken.{Broken}
-use Rattle.scenario.specs.declared.plan.Op.{Op}
-use Rattle.scenario.specs.declared.plan.Plan.{Plan}
-use Rattle.scenario.specs.declared.plan.Script.{Script}
+use Rattle.client_core.specs.Plans.{ops_in}
+use Rattle.client_core.specs.declared.plan.Op.{Op}
+use Rattle.client_core.specs.declared.plan.Plan.{Plan}
+use Rattle.client_core.specs.declared.plan.Script.{Script}
 
 -- at most 16 MiB
 abbrev pub short_enough : List ℕ → Result (List ℕ) Broken
@@ -34,39 +37,72 @@ ops_of ds = each_from (λ _ d. op_of d) 0 ds
 abbrev pub id_in : List ℕ → Option ClientId
 id_in text = option_and_then (λ bytes. if is_nil_bytes bytes then None else Some (record { 0 = from_be_bytes w128 bytes })) (parsed text)
 
-unfoldable pub script_of : Data → Result Script Broken
-script_of d = do
-  keys ← need (has_only (codes "id" ∷ codes "ops" ∷ []) d) not_built
-  text ← ok_or (text_at (codes "id") d) not_built
-  id ← ok_or (id_in text) not_built
+abbrev pub ops_at : Data → Result (List Op) Broken
+ops_at d = do
   list ← ok_or (array_at (codes "ops") d) not_built
   few ← need (nat_le (length list) 4000) not_built
-  steps ← ops_of list
-  Ok (record { id = id; ops = steps })
+  ops_of list
 
-abbrev pub scripts_of : List Data → Result (List Script) Broken
-scripts_of ds = each_from (λ _ d. script_of d) 0 ds
+-- the servers take the clients in turn, where a client names none
+abbrev pub home_of : ℕ → ℕ → Data → Result ℕ Broken
+home_of servers ordinal d = number_or (codes "home") servers (ordinal % servers) d
 
--- one server; the rest may be left out
+unfoldable pub script_of : ℕ → ℕ → Data → Result Script Broken
+script_of servers ordinal d = do
+  keys ← need (has_only (codes "id" ∷ codes "home" ∷ codes "ops" ∷ []) d) not_built
+  text ← ok_or (text_at (codes "id") d) not_built
+  id ← ok_or (id_in text) not_built
+  home ← home_of servers ordinal d
+  steps ← ops_at d
+  Ok (record { id = id; home = home; ops = steps })
+
+abbrev pub scripts_of : ℕ → List Data → Result (List Script) Broken
+scripts_of servers ds = each_from (script_of servers) 0 ds
+
+-- ---- clients together
+
+abbrev pub has_id : ClientId → List Script → Bool
+has_id id scripts = list_any (λ (s : Script). s.id.0 == id.0) scripts
+
+abbrev pub are_distinct : List Script → Bool
+are_distinct [] = true
+are_distinct (script ∷ scripts) = not (has_id script.id scripts) && are_distinct scripts
+
+-- 1 to 64 clients, with at most 4,000 operations in all
+unfoldable pub clients_of : ℕ → Data → Result (List Script) Broken
+clients_of servers d = do
+  list ← ok_or (array_at (codes "clients") d) not_built
+  few ← need (nat_le 1 (length list) && nat_le (length list) 64) not_built
+  scripts ← scripts_of servers list
+  distinct ← need (are_distinct scripts) not_built
+  short ← need (nat_le (ops_in scripts) 4000) not_built
+  Ok scripts
+
+-- ---- the plan
+
+-- each may be left out
 unfoldable pub config_of : Data → Result Settings Broken
 config_of d = do
+  servers ← count_or (codes "servers") 16 1 d
   nodes ← count_or (codes "nodes") 16 1 d
   chains ← count_or (codes "chains") 256 nodes d
   chunk ← count_or (codes "chunk") 4194304 1048576 d
   stripe ← count_or (codes "stripe") chains chains d
-  Ok (record { servers = 1; nodes = nodes; chains = chains; chunk = chunk; stripe = stripe })
+  Ok (record { servers = servers; nodes = nodes; chains = chains; chunk = chunk; stripe = stripe })
 
 abbrev pub top_keys : List (List ℕ)
-top_keys = codes "clients" ∷ codes "nodes" ∷ codes "chains" ∷ codes "chunk" ∷ codes "stripe" ∷ []
+top_keys =
+    codes "clients" ∷ codes "servers" ∷ codes "nodes" ∷ codes "chains" ∷ codes "chunk" ∷ codes "stripe" ∷ codes "attempts"
+    ∷ codes "schedule" ∷ []
 
 unfoldable pub plan_of : Data → Result Plan Broken
 plan_of d = do
   keys ← need (has_only top_keys d) not_built
   config ← config_of d
-  list ← ok_or (array_at (codes "clients") d) not_built
-  alone ← need (length list == 1) not_built
-  scripts ← scripts_of list
-  Ok (record { config = config; clients = scripts })
+  attempts ← count_or (codes "attempts") 64 64 d
+  scripts ← clients_of config.servers d
+  schedule ← schedule_of (length scripts) d
+  Ok (record { config = config; attempts = attempts; clients = scripts; schedule = schedule })
 
 unfoldable pub scenario_of : List ℕ → Result Plan Broken
 scenario_of bytes = do

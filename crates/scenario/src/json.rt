@@ -6,7 +6,7 @@ ghost use Rattle.std.specs.Str.{bytes_eq};
 ghost use Rattle.fs_base.specs.Gives.{Gives};
 ghost use Rattle.serde_json.specs.View.{view, items_view};
 ghost use Rattle.serde_json.specs.Find.{get, as_array};
-ghost use Rattle.scenario.specs.Json.{array_at, has_only, text_at};
+ghost use Rattle.scenario.specs.Json.{array_at, array_in, has_only, text_at};
 
 use crate::broken::Broken;
 use serde_json::Value;
@@ -59,4 +59,20 @@ fn member_array<'a>(value: &'a Value, name: &str) -> Option<&'a Vec<Value>>
     ensures { option_map (λ v. items_view v.now.items) result ≡ option_and_then as_array (get name.now (view value.now)) }
 {
     value.get(name).and_then(Value::as_array)
+}
+
+/// The elements of an array, or else the broken rule.
+pub fn array_in(value: &Value, broken: Broken) -> Result<&[Value], Broken>
+    ensures { Gives Some (λ s. map view s.now) result (ok_or (array_in (view value.now)) broken) }
+{
+    match elements_of(value) {
+        Some(list) => Ok(list.as_slice()),
+        None => Err(broken),
+    }
+}
+
+fn elements_of(value: &Value) -> Option<&Vec<Value>>
+    ensures { option_map (λ v. items_view v.now.items) result ≡ as_array (view value.now) }
+{
+    value.as_array()
 }

@@ -2,14 +2,14 @@
 #![tactic(auto)]
 
 mod broken;
+mod clients;
 mod json;
 mod numbers;
 mod ops;
-mod plan;
 mod read;
+mod schedule;
 #[cfg(test)]
 mod tests;
 
 pub use broken::{Broken, ScenarioError, too_long};
-pub use plan::{Op, Plan, Script};
 pub use read::read_scenario;

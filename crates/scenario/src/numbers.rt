@@ -4,12 +4,13 @@ ghost use Rattle.std.specs.Prelude.{◌≡◌, ◌≤◌, ◌<◌, ◌^◌, IfOk
 ghost use Rattle.serde_json.specs.View.{view};
 ghost use Rattle.serde_json.specs.Find.{get};
 ghost use Rattle.scenario.specs.Numbers.{count_or, number_at, number_or, whole_number};
-ghost use Rattle.scenario.specs.Plan.{IsBelow};
+ghost use Rattle.client_core.specs.Plans.{IsBelow};
 
 use crate::broken::{Broken, need, not_built};
 use serde_json::Value;
 
-fn whole_number(value: &Value) -> Option<u64>
+/// A whole number of 64 bits.
+pub fn whole_number(value: &Value) -> Option<u64>
     ensures { result ≡ whole_number (view value.now) }
 {
     value.as_u64()

@@ -6,12 +6,12 @@ ghost use Rattle.serde_json.specs.View.{view};
 ghost use Rattle.scenario.specs.Broken.{broken_of, not_built};
 ghost use Rattle.scenario.specs.Numbers.{number_or};
 ghost use Rattle.scenario.specs.Ops.{both, changes_of, keys_of, kind_of, layout_of, making_of, op_of, op_with, place_of, short_text};
-ghost use Rattle.scenario.specs.Plan.{IsChanges, IsLayout, IsOp, IsPlace};
+ghost use Rattle.client_core.specs.Plans.{IsChanges, IsLayout, IsOp, IsPlace};
 
 use crate::broken::{Broken, ScenarioError, need, not_built};
 use crate::json::{has_only, text_at};
 use crate::numbers::{number_16_at, number_32_at, number_at, number_or};
-use crate::plan::Op;
+use client_core::Op;
 use fs_base::{Changes, DefaultLayout, InodeId, Place, Text};
 use serde_json::Value;
 use std::alloc::Global;

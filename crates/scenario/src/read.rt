@@ -6,14 +6,16 @@ ghost use Rattle.serde_json.specs.View.{view};
 ghost use Rattle.scenario.specs.Broken.{broken_of, not_built, rule};
 ghost use Rattle.scenario.specs.declared.broken.ScenarioError.TheVariants.{BadScenario};
 ghost use Rattle.fs_base.specs.Config.{IsConfig};
-ghost use Rattle.scenario.specs.Plan.{HasOneScript, IsOp, IsScript};
-ghost use Rattle.scenario.specs.Scenario.{config_of, id_in, json_of, ops_of, plan_of, scenario_of, script_of, scripts_of, short_enough};
+ghost use Rattle.client_core.specs.Plans.{ops_in, AreDistinct, IsOp, IsPlan, IsScript};
+ghost use Rattle.scenario.specs.Scenario.{clients_of, config_of, home_of, id_in, json_of, ops_at, ops_of, plan_of, scenario_of, script_of, scripts_of, short_enough};
 
 use crate::broken::{Broken, ScenarioError, need, not_built, too_long};
+use crate::clients::{are_distinct, ops_in};
 use crate::json::{array_at, has_only, text_at};
-use crate::numbers::count_or;
+use crate::numbers::{count_or, number_or};
 use crate::ops::op_of;
-use crate::plan::{Op, Plan, Script};
+use crate::schedule::schedule_of;
+use client_core::{Op, Plan, Script};
 use fs_base::{ClientId, Config, Items};
 use serde_json::Value;
 use std::alloc::Global;
@@ -23,7 +25,7 @@ use uuid::Uuid;
 #[tactic(auto, unfolding(crate::specs::Scenario::scenario_of))]
 pub fn read_scenario(alloc: Global, bytes: &[u8]) -> Result<Plan, ScenarioError>
     ensures gives { Gives broken_of (λ plan. plan) result (scenario_of bytes.now) }
-    ensures valid { IfOk result (λ plan. HasOneScript plan) }
+    ensures valid { IfOk result (λ plan. IsPlan plan) }
     ensures long { 16777216 < length bytes.now → result ≡ Err (BadScenario (rule 1 16777216)) }
 {
     let text = short_enough(bytes)?;
@@ -58,73 +60,127 @@ fn json_of(alloc: Global, bytes: &[u8]) -> Result<Value, ScenarioError>
 #[tactic(auto, unfolding(crate::specs::Scenario::plan_of))]
 fn plan_of(alloc: Global, value: &Value) -> Result<Plan, ScenarioError>
     ensures gives { Gives broken_of (λ plan. plan) result (plan_of (view value.now)) }
-    ensures valid { IfOk result (λ plan. HasOneScript plan) }
+    ensures valid { IfOk result (λ plan. IsPlan plan) }
 {
     need(
-        has_only(value, &["clients", "nodes", "chains", "chunk", "stripe"]),
+        has_only(
+            value,
+            &[
+                "clients", "servers", "nodes", "chains", "chunk", "stripe", "attempts", "schedule",
+            ],
+        ),
         not_built(),
     )?;
     let config = config_of(value)?;
-    let list = array_at(value, "clients", not_built())?;
-    need(list.len() == 1, not_built())?;
-    let clients = scripts_of(alloc, list)?;
-    Ok(Plan { config, clients })
+    let attempts = count_or(value, "attempts", 64, 64)?;
+    let clients = clients_of(alloc, config.servers(), value)?;
+    let schedule = schedule_of(alloc, clients.len(), value)?;
+    Ok(Plan {
+        config,
+        attempts: attempts as u8,
+        clients,
+        schedule,
+    })
 }
 
-/// The configuration that the top keys name, of one server.
+/// The configuration that the top keys name.
 #[tactic(auto, unfolding(crate::specs::Scenario::config_of))]
 fn config_of(value: &Value) -> Result<Config, Broken>
     ensures { Gives Some (λ config. config) result (config_of (view value.now)) }
 {
+    let servers = count_or(value, "servers", 16, 1)?;
     let nodes = count_or(value, "nodes", 16, 1)?;
     let chains = count_or(value, "chains", 256, nodes)?;
     let chunk = count_or(value, "chunk", 4_194_304, 1_048_576)?;
     let stripe = count_or(value, "stripe", chains, chains)?;
-    Ok(config_with(nodes, chains, chunk, stripe))
+    Ok(config_with(servers, nodes, chains, chunk, stripe))
 }
 
 /// For numbers that are known to be in their ranges.
-fn config_with(nodes: u64, chains: u64, chunk: u64, stripe: u64) -> Config
-    requires { IsConfig 1 nodes chains chunk stripe }
+fn config_with(servers: u64, nodes: u64, chains: u64, chunk: u64, stripe: u64) -> Config
+    requires { IsConfig servers nodes chains chunk stripe }
     ensures { result ≡ record {
-      servers = 1;
+      servers = servers;
       nodes = nodes;
       chains = chains;
       chunk = chunk;
       stripe = stripe;
     } }
 {
-    match Config::new(1, nodes as u8, chains as u16, chunk as u32, stripe as u16) {
+    match Config::new(
+        servers as u8,
+        nodes as u8,
+        chains as u16,
+        chunk as u32,
+        stripe as u16,
+    ) {
         Some(config) => config,
         None => unreachable!(),
     }
 }
 
-fn scripts_of(alloc: Global, values: &[Value]) -> Result<Items<Script>, ScenarioError>
-    ensures gives { Gives broken_of (λ scripts. scripts) result (scripts_of (map view values.now)) }
+/// 1 to 64 clients, each with an id of its own.
+#[tactic(auto, unfolding(crate::specs::Scenario::clients_of))]
+fn clients_of(alloc: Global, servers: u8, value: &Value) -> Result<Items<Script>, ScenarioError>
+    requires { 1 ≤ servers }
+    ensures gives { Gives broken_of (λ clients. clients) result (clients_of servers (view value.now)) }
+    ensures some { IfOk result (λ clients. 1 ≤ length clients) }
+    ensures few { IfOk result (λ clients. length clients ≤ 64) }
+    ensures scripts { IfOk result (λ clients. All (IsScript servers) clients) }
+    ensures distinct { IfOk result (λ clients. AreDistinct clients) }
+    ensures short { IfOk result (λ clients. ops_in clients ≤ 4000) }
+{
+    let list = array_at(value, "clients", not_built())?;
+    need(1 <= list.len() && list.len() <= 64, not_built())?;
+    let clients = scripts_of(alloc, servers, list)?;
+    need(are_distinct(clients.as_slice()), not_built())?;
+    need(ops_in(clients.as_slice()) <= 4000, not_built())?;
+    Ok(clients)
+}
+
+fn scripts_of(alloc: Global, servers: u8, values: &[Value]) -> Result<Items<Script>, ScenarioError>
+    requires { 1 ≤ servers }
+    ensures gives { Gives broken_of (λ scripts. scripts) result (scripts_of servers (map view values.now)) }
     ensures count { IfOk result (λ scripts. length scripts ≡ length values.now) }
-    ensures valid { IfOk result (λ scripts. All IsScript scripts) }
+    ensures valid { IfOk result (λ scripts. All (IsScript servers) scripts) }
 {
     let mut scripts = Items::new(alloc);
     for value in values {
-        let script = script_of(alloc, value)?;
+        let ordinal = scripts.len();
+        let script = script_of(alloc, servers, ordinal, value)?;
         scripts.push(script)?;
     }
     Ok(scripts)
 }
 
 #[tactic(auto, unfolding(crate::specs::Scenario::script_of))]
-fn script_of(alloc: Global, value: &Value) -> Result<Script, ScenarioError>
-    ensures gives { Gives broken_of (λ script. script) result (script_of (view value.now)) }
-    ensures valid { IfOk result (λ script. IsScript script) }
+fn script_of(
+    alloc: Global,
+    servers: u8,
+    ordinal: usize,
+    value: &Value,
+) -> Result<Script, ScenarioError>
+    requires { 1 ≤ servers }
+    ensures gives { Gives broken_of (λ script. script) result (script_of servers ordinal (view value.now)) }
+    ensures valid { IfOk result (λ script. IsScript servers script) }
 {
-    need(has_only(value, &["id", "ops"]), not_built())?;
+    need(has_only(value, &["id", "home", "ops"]), not_built())?;
     let text = text_at(value, "id", not_built())?;
     let id = id_in(text)?;
-    let list = array_at(value, "ops", not_built())?;
-    need(list.len() <= 4000, not_built())?;
-    let ops = ops_of(alloc, list)?;
-    Ok(Script { id, ops })
+    let home = home_of(servers, ordinal, value)?;
+    let ops = ops_at(alloc, value)?;
+    Ok(Script { id, home, ops })
+}
+
+/// The server of the client at an ordinal: where it names none, the servers take the clients in turn.
+fn home_of(servers: u8, ordinal: usize, value: &Value) -> Result<u8, Broken>
+    requires { 1 ≤ servers }
+    ensures gives { result ≡ home_of servers ordinal (view value.now) }
+    ensures below { IfOk result (λ home. home < servers) }
+{
+    let servers = u64::from(servers);
+    let home = number_or(value, "home", servers, ordinal as u64 % servers)?;
+    Ok(home as u8)
 }
 
 /// The client of a text in any form of a UUID, but not the nil one.
@@ -138,6 +194,16 @@ fn id_in(text: &str) -> Result<ClientId, Broken>
         return Err(not_built());
     }
     Ok(ClientId(id.as_u128()))
+}
+
+fn ops_at(alloc: Global, value: &Value) -> Result<Items<Op>, ScenarioError>
+    ensures gives { Gives broken_of (λ ops. ops) result (ops_at (view value.now)) }
+    ensures few { IfOk result (λ ops. length ops ≤ 4000) }
+    ensures valid { IfOk result (λ ops. All IsOp ops) }
+{
+    let list = array_at(value, "ops", not_built())?;
+    need(list.len() <= 4000, not_built())?;
+    ops_of(alloc, list)
 }
 
 fn ops_of(alloc: Global, values: &[Value]) -> Result<Items<Op>, ScenarioError>

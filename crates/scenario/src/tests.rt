@@ -1,8 +1,8 @@
 //! What scenarios read as, and what breaks rule 11.
 
 use crate::broken::{Broken, ScenarioError};
-use crate::plan::{Op, Plan};
 use crate::read::read_scenario;
+use client_core::{Op, Plan};
 use std::alloc::{AllocError, Global};
 use std::process::Abort;
 use std::test::Fail;
@@ -81,7 +81,75 @@ const BROKEN_CONFIGURATIONS: &str = r#""nodes":0,
 "stripe":0,
 "stripe":2,
 "nodes":4,"stripe":5,
-"servers":1,"#;
+"servers":0,
+"servers":17,
+"servers":"2",
+"attempts":0,
+"attempts":65,
+"attempts":2.0,
+"version":1,"#;
+
+/// Scenarios, and what they read as, a line each: the servers, the attempts, the clients and the schedule. `ONE` is the
+/// client of the id 1, `TWO` that and the client of the id 2, and `NONE` the empty list; `ID` ends in a client's number.
+const PLANS: &str =
+    r#"{"clients":[ONE]} = 1 64 Items { items: [Script { id: ClientId(1), home: 0, ops: NONE }] } Items(NONE)
+{"servers":16,"attempts":1,"schedule":[],"clients":[ONE]} = 16 1 Items { items: [Script { id: ClientId(1), home: 0, ops: NONE }] } Items(NONE)
+{"servers":2,"attempts":64,"schedule":[1,0,101,100,1],"clients":[TWO]} = 2 64 Items { items: [Script { id: ClientId(1), home: 0, ops: NONE }, Script { id: ClientId(2), home: 1, ops: NONE }] } Items(Items { items: [1, 0, 101, 100, 1] })
+{"servers":2,"clients":[TWO,{"id":"ID3","ops":[]}]} = 2 64 Items { items: [Script { id: ClientId(1), home: 0, ops: NONE }, Script { id: ClientId(2), home: 1, ops: NONE }, Script { id: ClientId(3), home: 0, ops: NONE }] } Items(NONE)
+{"servers":3,"clients":[{"id":"ID2","home":2,"ops":[]},{"id":"ID1","home":0,"ops":[]}]} = 3 64 Items { items: [Script { id: ClientId(2), home: 2, ops: NONE }, Script { id: ClientId(1), home: 0, ops: NONE }] } Items(NONE)"#;
+
+/// Scenarios whose clients or schedule aren't of the form, a line each.
+const BROKEN_PLANS: &str = r#"{"clients":[]}
+{"clients":0}
+{"clients":[ONE,ONE]}
+{"clients":[TWO,ONE]}
+{"clients":[ONE,{"id":"ID0","ops":[]}]}
+{"clients":[{"id":"ID1","home":1,"ops":[]}]}
+{"servers":2,"clients":[{"id":"ID1","home":2,"ops":[]}]}
+{"servers":2,"clients":[{"id":"ID1","home":-1,"ops":[]}]}
+{"servers":2,"clients":[{"id":"ID1","home":"1","ops":[]}]}
+{"clients":[{"id":"ID1","name":"a","ops":[]}]}
+{"schedule":[2],"clients":[TWO]}
+{"schedule":[0,99],"clients":[TWO]}
+{"schedule":[102],"clients":[TWO]}
+{"schedule":[-1],"clients":[TWO]}
+{"schedule":[1.0],"clients":[TWO]}
+{"schedule":["0"],"clients":[TWO]}
+{"schedule":0,"clients":[TWO]}
+{"schedule":null,"clients":[TWO]}"#;
+
+/// What a text stands for that has the short names of `PLANS`.
+fn spelled(alloc: Global, text: &str) -> Result<String, AllocError> {
+    let text = text.replace(alloc, "TWO", r#"ONE,{"id":"ID2","ops":[]}"#)?;
+    let text = text.replace(alloc, "ONE", r#"{"id":"ID1","ops":[]}"#)?;
+    text.replace(alloc, "ID", "00000000-0000-0000-0000-00000000000")
+}
+
+/// A client with this many operations. Its id ends in two digits.
+fn client(alloc: Global, digits: u8, count: usize) -> Result<String, AllocError> {
+    let ops = r#",{"op":"stat","path":"/"}"#.repeat(alloc, count)?;
+    let ops = ops.as_str().strip_prefix(",").unwrap_or("");
+    format!(in alloc; r#"{{"id":"00000000-0000-4000-8000-0000000000{digits:02}","ops":[{ops}]}}"#)
+}
+
+/// What a scenario of so many clients without operations reads as.
+fn of_clients(alloc: Global, count: u8) -> Result<Result<Plan, ScenarioError>, Fail> {
+    let mut clients = client(alloc, 0, 0)?;
+    for k in 1..count {
+        clients.push_str(",")?;
+        clients.push_str(client(alloc, k, 0)?.as_str())?;
+    }
+    let input = format!(in alloc; r#"{{"clients":[{clients}]}}"#)?;
+    Ok(read_scenario(alloc, input.as_bytes()))
+}
+
+/// What a scenario of two clients with so many operations reads as.
+fn of_ops(alloc: Global, first: usize, second: usize) -> Result<Result<Plan, ScenarioError>, Fail> {
+    let one = client(alloc, 1, first)?;
+    let two = client(alloc, 2, second)?;
+    let input = format!(in alloc; r#"{{"clients":[{one},{two}]}}"#)?;
+    Ok(read_scenario(alloc, input.as_bytes()))
+}
 
 /// A scenario of one client with these operations, with these keys at the top.
 fn scenario(alloc: Global, top: &str, ops: &str) -> Result<String, AllocError> {
@@ -176,4 +244,46 @@ fn targets_of_65535_bytes_and_a_byte_more(rt: HostRuntime) -> Result<(), Fail> {
     assert!(rt; first(&plan).is_some());
     let op = op.replace(alloc, "target\":\"", "target\":\"t")?;
     breaks_rule_11(&rt, "", op.as_str())
+}
+
+#[test]
+fn plans_with_defaults_and_with_all_keys(rt: HostRuntime) -> Result<(), Fail> {
+    let alloc = rt.alloc();
+    for case in PLANS.split('\n') {
+        let (text, want) = case.split_once(" = ").ok_or("no answer")?;
+        let plan = read_scenario(alloc, spelled(alloc, text)?.as_bytes())?;
+        let servers = plan.config.servers();
+        let attempts = plan.attempts;
+        let got = format!(in alloc;
+            "{servers} {attempts} {:?} {:?}",
+            plan.clients, plan.schedule
+        )?;
+        let want = want.replace(alloc, "NONE", "Items { items: [] }")?;
+        assert_eq!(rt; got.as_str(), want.as_str(), "at {text}");
+    }
+    Ok(())
+}
+
+#[test]
+fn clients_and_schedules_that_are_not_of_the_form(rt: HostRuntime) -> Result<(), Fail> {
+    let alloc = rt.alloc();
+    for text in BROKEN_PLANS.split('\n') {
+        let got = broken(read_scenario(alloc, spelled(alloc, text)?.as_bytes()));
+        let want = Some(Broken { rule: 11, place: 0 });
+        assert_eq!(rt; got, want, "at {text}");
+    }
+    Ok(())
+}
+
+#[test]
+fn as_many_clients_and_operations_as_a_plan_may_have_and_one_more(
+    rt: HostRuntime,
+) -> Result<(), Fail> {
+    let alloc = rt.alloc();
+    let want = Some(Broken { rule: 11, place: 0 });
+    assert_eq!(rt; of_clients(alloc, 64)??.clients.len(), 64);
+    assert_eq!(rt; broken(of_clients(alloc, 65)?), want);
+    assert_eq!(rt; of_ops(alloc, 3999, 1)??.clients.len(), 2);
+    assert_eq!(rt; broken(of_ops(alloc, 3999, 2)?), want);
+    Ok(())
 }

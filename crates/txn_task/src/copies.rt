@@ -70,7 +70,10 @@ pub fn copy_look(alloc: Global, ask: &Ask) -> Result<Ask, Memory>
 }
 
 /// Copies of conflicts, in the same order.
-pub(crate) fn copy_conflicts(alloc: Global, conflicts: &[(u64, Key)]) -> Result<Items<(u64, Key)>, Memory>
+pub(crate) fn copy_conflicts(
+    alloc: Global,
+    conflicts: &[(u64, Key)],
+) -> Result<Items<(u64, Key)>, Memory>
     ensures { IfOk result (λ copies. copies ≡ conflicts.now) }
 {
     let mut copies = Items::new(alloc);

@@ -5,7 +5,7 @@ use Rattle.fs_base.proofs.Each.{each_more, each_refused, each_done}
 use Rattle.serde_json.specs.View.{view}
 use Rattle.scenario.specs.Broken.{broken_of}
 use Rattle.scenario.specs.Ops.{op_of}
-use Rattle.scenario.specs.Plan.{IsOp}
+use Rattle.client_core.specs.Plans.{IsOp}
 use Rattle.scenario.proofs.read.ops_of.Goals as goal
 
 pub loop-value-preserved : goal.loop-value-preserved

@@ -4,7 +4,7 @@ use Rattle.fs_base.specs.Gives.{each_from}
 use Rattle.fs_base.proofs.Each.{with_front}
 use Rattle.serde_json.specs.View.{view}
 use Rattle.scenario.specs.Ops.{op_of}
-use Rattle.scenario.specs.Plan.{IsOp}
+use Rattle.client_core.specs.Plans.{IsOp}
 use Rattle.scenario.specs.Scenario.{ops_of}
 use Rattle.scenario.proofs.read.ops_of.Given as goal
 

@@ -1,6 +1,0 @@
-use Rattle.std.proofs.Common.{arith}
-use Rattle.byte_fields.proofs.Bytes.{are_bytes_by}
-use Rattle.fs3meta.proofs.run.is_of_bytes.Goals as goal
-
-pub returns : goal.returns
-returns c = are_bytes_by c.args.bytes.now (λ i. omega (arith, c.type_inv.bytes i))

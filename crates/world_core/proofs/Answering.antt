@@ -1,0 +1,83 @@
+-- What the store answers, over the entries alone.
+use Rattle.std.proofs.Common.{◌≡◌, ℕ, zero, suc, List, [], ◌∷◌, inl, inr, Option, Some, None, true, false, length, sym, ap, subst, ◌∙◌}
+use Rattle.std.specs.Prelude.{slice_get}
+use Rattle.std.specs.Ordering.{is_eq}
+use Rattle.std.proofs.lemmas.Bool.{or_cases}
+use Rattle.conflict_sets.specs.Held.{is_written_key}
+use Rattle.conflict_sets.specs.Keys.{key_cmp}
+use Rattle.conflict_sets.specs.Rows.{value_at_key, rows_between, with_writes}
+use Rattle.conflict_sets.specs.declared.sets.ReadSet.{ReadSet}
+use Rattle.conflict_sets.specs.declared.sets.Write.{Write}
+use Rattle.fs_base.specs.Config.{Settings}
+use Rattle.fs_base.specs.declared.row.Row.{Row}
+use Rattle.key_schema.specs.Keys.{IsKeyOf}
+use Rattle.key_schema.specs.declared.key.Key.{Key}
+use Rattle.kv_store.specs.Causes.{HasCause}
+use Rattle.kv_store.specs.Journal.{first_later, last_writer, rows_at, IsRun}
+use Rattle.kv_store.specs.Later.{IsFirst}
+use Rattle.kv_store.specs.Store.{Store}
+use Rattle.kv_store.specs.declared.store.CommitError.{CommitError}
+use Rattle.kv_store.specs.declared.store.CommitError.TheVariants as errors
+use Rattle.kv_store.proofs.LaterLemmas.{first_later_first}
+use Rattle.meta_task.specs.declared.entry.MetaEntry.{MetaEntry}
+use Rattle.path_walk.specs.Sound.{IsSoundEntry}
+use Rattle.row_tree.specs.Opening.{opening_bytes}
+use Rattle.txn_task.specs.Agreeing.{HaveValidKeys}
+use Rattle.txn_task.specs.declared.messages.Entry.{Entry}
+use Rattle.run_record.specs.Legal.{journal_rows, reads_of, writes_of}
+use Rattle.world_core.specs.Objects.{entries_of}
+use Rattle.world_core.specs.Ready.{IsKeyed}
+use Rattle.world_core.specs.Sound.{IsOpen, IsSoundJournal}
+use Rattle.world_core.proofs.Covered.{equal_key}
+use Rattle.world_core.proofs.Rows.{length_entries, later_same, rows_same, writer_same}
+
+-- the rows at a version
+pub rows_are : (store : Store MetaEntry) (n : ℕ) → IsOpen store → rows_at (λ (m : MetaEntry). m.entry.writes) store.opening store.journal n ≡ journal_rows store.config (entries_of store.journal) n
+rows_are store n h = rows_same store.opening store.journal n ∙ ap (λ (rows : List Row). rows_at writes_of rows (entries_of store.journal) n) h.opening
+
+pub value_same : (store : Store MetaEntry) (n : ℕ) (bytes key : List ℕ) (value : Option (List ℕ)) → IsOpen store → bytes ≡ key → value ≡ value_at_key (rows_at (λ (m : MetaEntry). m.entry.writes) store.opening store.journal n) bytes
+    → value ≡ value_at_key (journal_rows store.config (entries_of store.journal) n) key
+value_same store n bytes key value h same is = is ∙ (ap (value_at_key (rows_at (λ (m : MetaEntry). m.entry.writes) store.opening store.journal n)) same ∙ ap (λ (rows : List Row). value_at_key rows key) (rows_are store n h))
+
+pub writer_is : (store : Store MetaEntry) (n : ℕ) (bytes key : List ℕ) (version : ℕ) → bytes ≡ key → version ≡ last_writer (λ (m : MetaEntry). m.entry.writes) store.journal n bytes → version ≡ last_writer writes_of (entries_of store.journal) n key
+writer_is store n bytes key version same is = is ∙ (ap (last_writer (λ (m : MetaEntry). m.entry.writes) store.journal n) same ∙ writer_same store.journal n key)
+
+pub page_same : (store : Store MetaEntry) (n : ℕ) (l lo h hi : List ℕ) (limit : ℕ) (page : List Row) → IsOpen store → l ≡ lo → h ≡ hi → page ≡ rows_between (rows_at (λ (m : MetaEntry). m.entry.writes) store.opening store.journal n) l h limit
+    → page ≡ rows_between (journal_rows store.config (entries_of store.journal) n) lo hi limit
+page_same store n l lo h hi limit page begun low high is =
+    is ∙ (ap (λ (k : List ℕ). rows_between (rows_at (λ (m : MetaEntry). m.entry.writes) store.opening store.journal n) k h limit) low
+    ∙ (ap (λ (k : List ℕ). rows_between (rows_at (λ (m : MetaEntry). m.entry.writes) store.opening store.journal n) lo k limit) high
+    ∙ ap (λ (rows : List Row). rows_between rows lo hi limit) (rows_are store n begun)))
+
+-- ---- a conflict's key
+
+written_is_valid : (writes : List Write) (key : List ℕ) → HaveValidKeys writes → is_written_key writes key ≡ true → (k : Key) × IsKeyOf key k
+written_is_valid [] key valid is = absurd (let f : false ≡ true = is in cc)
+written_is_valid (write ∷ writes) key valid is =
+    elim (or_cases (is_eq (key_cmp key write.key)) (is_written_key writes key) is) [
+      | inl here ↦ (valid.0.0, (valid.0.1, sym (equal_key key write.key here ∙ valid.0.2)))
+      | inr later ↦ written_is_valid writes key valid.1 later
+    ]
+
+sound_at : (C : Settings) (rows : List Row) (journal : List Entry) (place : ℕ) (entry : Entry) → IsRun reads_of writes_of (IsSoundEntry C) rows journal → slice_get journal place ≡ Some entry → IsSoundEntry C entry
+sound_at C rows [] place entry run at = absurd (let k : None ≡ Some entry = at in cc)
+sound_at C rows (first ∷ journal) zero entry run at = let same : first ≡ entry = cc in subst (λ (e : Entry). IsSoundEntry C e) same run.0
+sound_at C rows (first ∷ journal) (suc place) entry run at = sound_at C (with_writes rows first.writes.writes) journal place entry run.2 at
+
+pub conflict_keyed : (C : Settings) (journal : List Entry) (snapshot : ℕ) (reads : ReadSet) (version : ℕ) (key : List ℕ) → IsSoundJournal C journal → first_later writes_of journal snapshot reads ≡ Some (version, key) → (k : Key) × IsKeyOf key k
+conflict_keyed C journal snapshot reads version key sound is =
+    let found : IsFirst writes_of journal snapshot reads (Some (version, key)) =
+    subst (λ (o : Option (ℕ × List ℕ)). IsFirst writes_of journal snapshot reads o) is
+    (first_later_first reads_of writes_of (IsSoundEntry C) (λ e s. s.ascending) (opening_bytes C) journal sound.run snapshot reads) in
+    written_is_valid found.entry.writes.writes key (sound_at C (opening_bytes C) journal found.place found.entry sound.run found.there).valid found.least.written
+
+pub cause_keyed : (C : Settings) (journal : List Entry) (snapshot : ℕ) (reads : ReadSet) (front : ℕ) (why : CommitError) → IsSoundJournal C journal → HasCause (first_later writes_of journal snapshot reads) front why → IsKeyed why
+cause_keyed C journal snapshot reads front (errors.Conflict version key) sound cause = conflict_keyed C journal snapshot reads version key sound cause
+cause_keyed C journal snapshot reads front errors.Full sound cause = tt
+cause_keyed C journal snapshot reads front errors.Memory sound cause = tt
+
+pub cause_same : (store : Store MetaEntry) (snapshot : ℕ) (reads : ReadSet) (why : CommitError) → HasCause (first_later (λ (m : MetaEntry). m.entry.writes) store.journal snapshot reads) (length store.journal) why
+    → HasCause (first_later writes_of (entries_of store.journal) snapshot reads) (length (entries_of store.journal)) why
+cause_same store snapshot reads why h =
+    subst (λ (n : ℕ). HasCause (first_later writes_of (entries_of store.journal) snapshot reads) n why) (sym (length_entries store.journal))
+    (subst (λ (o : Option (ℕ × List ℕ)). HasCause o (length store.journal) why) (later_same store.journal snapshot reads) h)

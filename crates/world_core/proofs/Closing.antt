@@ -1,0 +1,89 @@
+-- A world that begins, one that has ended, and the plan that both keep.
+use Rattle.std.proofs.Common.{◌≡◌, ℕ, ◌^◌, ◌<◌, ◌≤◌, ◌+◌, suc, List, [], ◌∷◌, false, length, map, Result, Ok, Err, IfOk, refl, sym, ap, subst, ◌∙◌, arith}
+use Rattle.fs_base.specs.Config.{Settings}
+use Rattle.fs_base.specs.declared.memory.Memory.{Memory}
+use Rattle.row_tree.specs.HasTree.{HasTree}
+use Rattle.row_tree.specs.Opening.{opening_bytes}
+use Rattle.tree_model.specs.Tree.{new_tree}
+use Rattle.fs_base.specs.declared.row.Row.{Row}
+use Rattle.kv_store.specs.Store.{Store}
+use Rattle.meta_task.specs.declared.entry.MetaEntry.{MetaEntry}
+use Rattle.txn_task.specs.declared.messages.Entry.{Entry}
+use Rattle.client_core.specs.Plans.{AreDistinct, IsPlan, IsSchedule, ops_in}
+use Rattle.client_core.specs.declared.plan.Plan.{Plan}
+use Rattle.client_core.specs.declared.plan.Script.{Script}
+use Rattle.run_record.specs.Right.{IsRight, conflicts_in, summary_of}
+use Rattle.run_record.specs.declared.run.Record.{Record}
+use Rattle.world_core.specs.Kept.{IsSeat}
+use Rattle.world_core.specs.Objects.{entries_of, no_histories}
+use Rattle.world_core.specs.Sound.{IsOpen, IsSoundJournal}
+use Rattle.world_core.specs.World.{AreSeated, HaveEnded, IsWorld, WorldView, plan_of, receipts_in, scripts_of, seats_of}
+use Rattle.world_core.specs.declared.seats.Seat.{Seat}
+use Rattle.world_core.proofs.Counting.{few_conflicts}
+use Rattle.world_core.proofs.Righting.{right_record, sections}
+use Rattle.world_core.proofs.Rows.{length_entries}
+use Rattle.world_core.proofs.Seating.{scripts_new, seated_new}
+
+-- ---- the plan
+
+length_scripts : (seats : List Seat) → length (scripts_of seats) ≡ length seats
+length_scripts [] = refl
+length_scripts (seat ∷ seats) = ap (λ (n : ℕ). suc n) (length_scripts seats)
+
+-- worlds of one plan have as many clients
+pub same_seats : (v w : WorldView) → plan_of v ≡ plan_of w → length v.seats ≡ length w.seats
+same_seats v w same = sym (length_scripts v.seats) ∙ (ap (λ (plan : Plan). length plan.clients) same ∙ length_scripts w.seats)
+
+pub same_schedule : (v w : WorldView) → plan_of v ≡ plan_of w → v.schedule ≡ w.schedule
+same_schedule v w same = ap (λ (plan : Plan). plan.schedule) same
+
+-- ---- a world that begins
+
+pub store_open : (C : Settings) (rows : List Row) (store : Store MetaEntry) → rows ≡ opening_bytes C → HasTree C rows (new_tree C) → store ≡ record { config = C; opening = rows; journal = [] } → IsOpen store
+store_open C rows store value tree is =
+    subst (λ (s : Store MetaEntry). IsOpen s) (sym is) (record { opening = value; tree = subst (λ (r : List Row). HasTree C r (new_tree C)) value tree })
+
+module _ (plan : Plan) (store : Store MetaEntry) (seats : List Seat) (are : seats ≡ seats_of plan.config plan.clients) where
+  scripts_same : scripts_of seats ≡ plan.clients
+  scripts_same = ap (λ (ss : List Seat). scripts_of ss) are ∙ scripts_new plan.config plan.clients
+
+  pub plan_new : plan_of (record { config = plan.config; attempts = plan.attempts; objects = record { store = store; nodes = no_histories plan.config.nodes }; seats = seats; schedule = plan.schedule; failed = false }) ≡ plan
+  plan_new = ap (λ (ss : List Script). record { config = plan.config; attempts = plan.attempts; clients = ss; schedule = plan.schedule }) scripts_same
+
+  pub world_new : IsPlan plan → store.config ≡ plan.config → store.journal ≡ [] → IsOpen store
+      → IsWorld (record { config = plan.config; attempts = plan.attempts; objects = record { store = store; nodes = no_histories plan.config.nodes }; seats = seats; schedule = plan.schedule; failed = false })
+  world_new h config none opened =
+      let count : length plan.clients ≡ length seats = sym (ap (λ (ss : List Script). length ss) scripts_same) ∙ length_scripts seats in
+      record {
+        config = config;
+        opened = opened;
+        attempts_from = h.attempts_from;
+        attempts_to = h.attempts_to;
+        distinct = subst (λ (ss : List Script). AreDistinct ss) (sym scripts_same) h.distinct;
+        few = subst (λ (n : ℕ). n ≤ 64) count h.few;
+        short = subst (λ (ss : List Script). ops_in ss ≤ 4000) (sym scripts_same) h.short;
+        schedule = subst (λ (n : ℕ). IsSchedule n plan.schedule) count h.schedule;
+        seated = λ alive.
+            subst (λ (js : List MetaEntry). AreSeated plan.config plan.attempts (entries_of js) seats) (sym none)
+            (subst (λ (ss : List Seat). AreSeated plan.config plan.attempts [] ss) (sym are) (seated_new plan.config plan.attempts plan.clients h.scripts));
+      }
+
+-- ---- a world that has ended
+
+pub few_kept : (w : WorldView) → IsWorld w → w.failed ≡ false → HaveEnded w.seats → length w.objects.store.journal ≤ 200000 → conflicts_in (receipts_in w.seats) < 2 ^ 64
+few_kept w h alive ended short =
+    let journal : List Entry = entries_of w.objects.store.journal in
+    let seated : AreSeated w.config w.attempts journal w.seats = h.seated alive in
+    few_conflicts w.config w.attempts journal (scripts_of w.seats) (receipts_in w.seats)
+    (sections w.config w.attempts journal w.seats 0 (λ k z at.
+    (let same : k ≡ 0 + k = omega arith in (subst (λ n. IsSeat w.config w.attempts journal n z) same (seated.all k z at), ended k z at))))
+    (subst (λ (n : ℕ). n ≤ 200000) (sym (length_entries w.objects.store.journal)) short)
+    h.short
+
+pub right_run : (w : WorldView) (r : Result Record Memory) → IsWorld w → w.failed ≡ false → HaveEnded w.seats → IsSoundJournal w.objects.store.config (entries_of w.objects.store.journal)
+    → IfOk r (λ run. run.config ≡ w.config) → IfOk r (λ run. run.clients ≡ map (λ (script : Script). script.id) (scripts_of w.seats)) → IfOk r (λ run. run.receipts ≡ receipts_in w.seats)
+    → IfOk r (λ run. run.entries ≡ entries_of w.objects.store.journal) → IfOk r (λ run. run.summary ≡ summary_of run.receipts run.entries)
+    → IfOk r (λ run. IsRight (plan_of w) run)
+right_run w (Ok run) h alive ended sound config clients receipts entries summary =
+    right_record w run (subst (λ (C : Settings). IsSoundJournal C (entries_of w.objects.store.journal)) h.config sound) h.distinct (h.seated alive) ended config clients receipts entries summary
+right_run w (Err e) h alive ended sound config clients receipts entries summary = tt

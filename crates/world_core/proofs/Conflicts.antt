@@ -1,0 +1,77 @@
+-- A conflict names a later entry of another client that wrote what the request may read.
+use Rattle.std.proofs.Common.{◌≡◌, ℕ, ◌<◌, ◌≤◌, ◌+◌, inl, inr, List, [], ◌∷◌, ◌++◌, Option, Some, true, false, take, sym, refl, subst, arith}
+use Rattle.std.specs.List.{list_any}
+use Rattle.std.specs.Ordering.{is_eq}
+use Rattle.std.proofs.lemmas.Bool.{or_cases}
+use Rattle.conflict_sets.specs.Keys.{key_cmp}
+use Rattle.conflict_sets.specs.Held.{is_written_key}
+use Rattle.conflict_sets.specs.Rows.{IsAscending}
+use Rattle.conflict_sets.specs.declared.sets.Write.{Write}
+use Rattle.fs_base.specs.Config.{Settings}
+use Rattle.fs_base.specs.declared.call.Request.{Request}
+use Rattle.key_schema.specs.Keys.{spelled_key, IsSpellable}
+use Rattle.key_schema.specs.declared.key.Key.{Key}
+use Rattle.kv_store.specs.Journal.{first_later}
+use Rattle.kv_store.specs.Later.{IsFirst, IsFirstLater}
+use Rattle.kv_store.proofs.JournalLemmas.{IsAscending-after_all}
+use Rattle.kv_store.proofs.LaterLemmas.{first_later_first}
+use Rattle.path_walk.specs.Sound.{IsSoundEntry}
+use Rattle.row_tree.specs.Opening.{opening_bytes}
+use Rattle.txn_task.specs.declared.messages.Entry.{Entry}
+use Rattle.meta_task.specs.Task.{TaskView}
+use Rattle.run_record.specs.Legal.{journal_rows, tree_at, reads_of, writes_of}
+use Rattle.run_record.specs.Receipts.{IsWritten, NamesLater, AreConflicts}
+use Rattle.world_core.specs.Kept.{IsBegun, last_version}
+use Rattle.world_core.specs.Sound.{IsSoundJournal}
+use Rattle.world_core.proofs.Covered.{equal_key, held_touched}
+use Rattle.world_core.proofs.Fitting.{RequestFits}
+use Rattle.world_core.proofs.History.{rows_tree}
+
+-- conflicts rise
+pub last_version_above : (C : Settings) (es : List Entry) (request : Request) (floor : ℕ) (pairs : List (ℕ × Key)) → AreConflicts C es request floor pairs → floor ≤ last_version floor pairs
+last_version_above C es request floor [] h = omega arith
+last_version_above C es request floor (p ∷ pairs) h =
+    let rest : p.0 ≤ last_version p.0 pairs = last_version_above C es request p.0 pairs h.1 in
+    let a : floor ≤ h.0.snapshot = h.0.from in
+    let b : h.0.snapshot ≤ h.0.place = h.0.later in
+    let c : p.0 ≡ h.0.place + 1 = h.0.version in
+    omega arith
+
+pub AreConflicts-push : (C : Settings) (es : List Entry) (request : Request) (floor : ℕ) (pairs : List (ℕ × Key)) (p : ℕ × Key) → AreConflicts C es request floor pairs → NamesLater C es request (last_version floor pairs) p → AreConflicts C es request floor (pairs ++ p ∷ [])
+AreConflicts-push C es request floor [] p h n = (n, tt)
+AreConflicts-push C es request floor (q ∷ pairs) p h n = (h.0, AreConflicts-push C es request q.0 pairs p h.1 n)
+
+pub last_version-push : (floor : ℕ) (pairs : List (ℕ × Key)) (p : ℕ × Key) → last_version floor (pairs ++ p ∷ []) ≡ p.0
+last_version-push floor [] p = refl
+last_version-push floor (q ∷ pairs) p = last_version-push q.0 pairs p
+
+written : (writes : List Write) (key : List ℕ) → is_written_key writes key ≡ true → IsWritten writes key
+written [] key e = absurd (let f : false ≡ true = e in cc)
+written (w ∷ writes) key e =
+    elim (or_cases (is_eq (key_cmp key w.key)) (list_any (λ (write : Write). is_eq (key_cmp key write.key)) writes) e) [
+      | inl here ↦ inl (sym (equal_key key w.key here))
+      | inr later ↦ inr (written writes key later)
+    ]
+
+pub rows_ascending : (C : Settings) (journal : List Entry) → IsSoundJournal C journal → (n : ℕ) → IsAscending (journal_rows C journal n)
+rows_ascending C journal s n = IsAscending-after_all writes_of (opening_bytes C) (take n journal) s.ascending
+
+pub conflict_named : (C : Settings) (journal : List Entry) (floor : ℕ) (task : TaskView) (version : ℕ) (key : Key) → IsSoundJournal C journal → RequestFits task.request → IsBegun C journal task.request.client floor task → IsSpellable key
+    → first_later writes_of journal task.snapshot task.reads ≡ Some (version, spelled_key key) → NamesLater C journal task.request floor (version, key)
+conflict_named C journal floor task version key s fits b spellable later =
+    let first : IsFirstLater writes_of journal task.snapshot task.reads version (spelled_key key)
+    = subst (λ (o : Option (ℕ × List ℕ)). IsFirst writes_of journal task.snapshot task.reads o) later
+    (first_later_first reads_of writes_of (IsSoundEntry C) (λ e sound. sound.ascending) (opening_bytes C) journal s.run task.snapshot task.reads) in
+    let behind : task.snapshot ≤ first.place = first.later in
+    record {
+      snapshot = task.snapshot;
+      from = b.from;
+      place = first.place;
+      version = first.numbered;
+      later = first.later;
+      entry = first.entry;
+      at = first.there;
+      other = λ same. (let before : first.place < task.snapshot = b.own first.place first.entry first.there same in omega arith);
+      wrote = written first.entry.writes.writes (spelled_key key) first.least.written;
+      touched = held_touched C task.request task.reads (journal_rows C journal task.snapshot) (tree_at C journal task.snapshot) key fits b.covered (rows_ascending C journal s task.snapshot) (rows_tree C journal s task.snapshot) b.agrees spellable first.least.held;
+    }

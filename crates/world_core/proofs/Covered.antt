@@ -1,0 +1,195 @@
+-- What was read stays in the footprint as more is read, and holds the keys that conflicts name.
+use Rattle.std.proofs.Common.{◌≡◌, inl, inr, ℕ, Bool, true, false, List, [], ◌∷◌, ◌++◌, refl, sym, ap, subst, ◌∙◌, ◌&&◌}
+use Rattle.std.specs.Prelude.{Option, codes, ◌==◌, length, if◌then◌else◌}
+use Rattle.std.specs.List.{list_any}
+use Rattle.std.specs.Ordering.{is_eq, is_lt, is_ge, is_le}
+use Rattle.std.specs.Int.{w64, to_le_bytes}
+use Rattle.std.specs.declared.cmp.Ordering.TheVariants.{Less, Greater}
+use Rattle.std.proofs.lemmas.Bool.{or_cases}
+use Rattle.conflict_sets.specs.Keys.{key_cmp}
+use Rattle.conflict_sets.specs.Reads as bytes
+use Rattle.conflict_sets.specs.Reads.{KeysAgree, RangesAgree, reads_hold, range_holds, is_up_to_last}
+use Rattle.conflict_sets.specs.Rows.{IsAscending, is_inside}
+use Rattle.conflict_sets.specs.declared.sets.KeyRead.{KeyRead}
+use Rattle.conflict_sets.specs.declared.sets.RangeRead.{RangeRead}
+use Rattle.conflict_sets.specs.declared.sets.ReadSet.{ReadSet}
+use Rattle.conflict_sets.proofs.KeyOrder.{key_exact, key_less_flips, key_greater_flips, key_trans}
+use Rattle.conflict_sets.proofs.RowLemmas.{by_place}
+use Rattle.fs_base.specs.Config.{Settings}
+use Rattle.fs_base.specs.declared.call.Request.{Request}
+use Rattle.fs_base.specs.declared.row.Row.{Row}
+use Rattle.key_schema.specs.Keys.{spelled_key, IsSpellable}
+use Rattle.key_schema.specs.Ranges.{dir_prefix, raised}
+use Rattle.key_schema.specs.declared.key.Key.{Key}
+use Rattle.key_schema.specs.declared.key.Key.TheVariants as keys
+use Rattle.key_schema.proofs.KeyLaws.{one_key_each}
+use Rattle.row_tree.specs.HasTree.{HasTree}
+use Rattle.row_tree.specs.TreeOf.{tree_of}
+use Rattle.row_tree.specs.TypedRows.{TypedRows}
+use Rattle.row_tree.proofs.Prefixes.{prefix_of}
+use Rattle.tree_model.specs.Tree.{Tree}
+use Rattle.path_walk.specs.Areas.{Area, OneKey, Entries, IsArea, IsRangeOf}
+use Rattle.path_walk.specs.Footprint.{footprint}
+use Rattle.path_walk.specs.Owed.{MayAsk}
+use Rattle.txn_task.specs.Agreeing.{Agrees}
+use Rattle.txn_task.specs.Transactions.{with_key, with_range}
+use Rattle.txn_task.specs.declared.messages.Ask.TheVariants as asks
+use Rattle.run_record.specs.Touched.{IsTouched, AreTouched, AreKeysTouched, AreRangesTouched}
+use Rattle.world_core.specs.Kept.{IsCovered}
+use Rattle.world_core.proofs.Fitting.{AreaFits, IsWord, RequestFits, area_fits}
+
+-- ---- one more read
+
+pub KeysAgree-push : (rows : List Row) (reads : List KeyRead) (read : KeyRead) → KeysAgree rows reads → bytes.KeysAgree rows (read ∷ []) → KeysAgree rows (reads ++ read ∷ [])
+KeysAgree-push rows [] read h e = e
+KeysAgree-push rows (r ∷ reads) read h e = (h.0, KeysAgree-push rows reads read h.1 e)
+
+pub RangesAgree-push : (rows : List Row) (reads : List RangeRead) (read : RangeRead) → RangesAgree rows reads → RangesAgree rows (read ∷ []) → RangesAgree rows (reads ++ read ∷ [])
+RangesAgree-push rows [] read h e = e
+RangesAgree-push rows (r ∷ reads) read h e = (h.0, RangesAgree-push rows reads read h.1 e)
+
+KeysAgree-before : (rows : List Row) (reads more : List KeyRead) → KeysAgree rows (reads ++ more) → KeysAgree rows reads
+KeysAgree-before rows [] more h = tt
+KeysAgree-before rows (r ∷ reads) more h = (h.0, KeysAgree-before rows reads more h.1)
+
+RangesAgree-before : (rows : List Row) (reads more : List RangeRead) → RangesAgree rows (reads ++ more) → RangesAgree rows reads
+RangesAgree-before rows [] more h = tt
+RangesAgree-before rows (r ∷ reads) more h = (h.0, RangesAgree-before rows reads more h.1)
+
+-- rows that agree with more agree with less
+before_key : (S : TypedRows) (reads : ReadSet) (key : List ℕ) (value : Option (List ℕ)) → Agrees S (with_key reads key value) → Agrees S reads
+before_key S reads key value h =
+    record {
+      rows = h.rows;
+      ascending = h.ascending;
+      spells = h.spells;
+      agrees = record { keys = KeysAgree-before h.rows reads.keys (record { key = key; value = value } ∷ []) h.agrees.keys; ranges = h.agrees.ranges };
+    }
+
+before_range : (S : TypedRows) (reads : ReadSet) (range : RangeRead) → Agrees S (with_range reads range) → Agrees S reads
+before_range S reads range h =
+    record {
+      rows = h.rows;
+      ascending = h.ascending;
+      spells = h.spells;
+      agrees = record { keys = h.agrees.keys; ranges = RangesAgree-before h.rows reads.ranges (range ∷ []) h.agrees.ranges };
+    }
+
+KeysTouched-push : (areas : List Area) (reads : List KeyRead) (read : KeyRead) → AreKeysTouched areas reads → AreKeysTouched areas (read ∷ []) → AreKeysTouched areas (reads ++ read ∷ [])
+KeysTouched-push areas [] read h e = e
+KeysTouched-push areas (r ∷ reads) read h e = (h.0, KeysTouched-push areas reads read h.1 e)
+
+RangesTouched-push : (areas : List Area) (reads : List RangeRead) (read : RangeRead) → AreRangesTouched areas reads → AreRangesTouched areas (read ∷ []) → AreRangesTouched areas (reads ++ read ∷ [])
+RangesTouched-push areas [] read h e = e
+RangesTouched-push areas (r ∷ reads) read h e = (h.0, RangesTouched-push areas reads read h.1 e)
+
+-- nothing read yet
+pub covered_none : (C : Settings) (q : Request) → IsCovered C q (record { keys = []; ranges = [] })
+covered_none C q S good agrees = record { keys = tt; ranges = tt }
+
+-- a key, or rows, that could be asked for
+pub covered_key : (C : Settings) (q : Request) (reads : ReadSet) (key : Key) (value : Option (List ℕ)) → MayAsk C (λ T. footprint T q) reads (asks.Get key) → IsCovered C q reads → IsCovered C q (with_key reads (spelled_key key) value)
+covered_key C q reads key value may h S good agrees =
+    let less : Agrees S reads = before_key S reads (spelled_key key) value agrees in
+    let old : AreTouched (footprint (tree_of S) q) reads = h S good less in
+    record {
+      keys = KeysTouched-push (footprint (tree_of S) q) reads.keys (record { key = spelled_key key; value = value }) old.keys ((key, refl, may S good less), tt);
+      ranges = old.ranges;
+    }
+
+pub covered_range : (C : Settings) (q : Request) (reads : ReadSet) (lo hi : List ℕ) (limit : ℕ) (rows : List Row) → MayAsk C (λ T. footprint T q) reads (asks.Range lo hi limit) → IsCovered C q reads
+    → IsCovered C q (with_range reads (record { lo = lo; hi = hi; limit = limit; rows = rows }))
+covered_range C q reads lo hi limit rows may h S good agrees =
+    let less : Agrees S reads = before_range S reads (record { lo = lo; hi = hi; limit = limit; rows = rows }) agrees in
+    let old : AreTouched (footprint (tree_of S) q) reads = h S good less in
+    record {
+      keys = old.keys;
+      ranges = RangesTouched-push (footprint (tree_of S) q) reads.ranges (record { lo = lo; hi = hi; limit = limit; rows = rows }) old.ranges (may S good less, tt);
+    }
+
+-- ---- a key that was held
+
+pub equal_key : (a b : List ℕ) → is_eq (key_cmp a b) ≡ true → a ≡ b
+equal_key a b t = by_place (a ≡ b) a b
+    (λ e. absurd (let f : false ≡ true = (rw e at t) in cc))
+    (λ e. key_exact a b e)
+    (λ e. absurd (let f : false ≡ true = (rw e at t) in cc))
+
+-- a key that was read
+key_touched : (areas : List Area) (reads : List KeyRead) (key : Key) → IsSpellable key → ((area : Area) → IsArea area areas → AreaFits area) → AreKeysTouched areas reads → list_any (λ (read : KeyRead). is_eq (key_cmp (spelled_key key) read.key)) reads ≡ true → IsTouched areas key
+key_touched areas [] key valid fit h e = absurd (let f : false ≡ true = e in cc)
+key_touched areas (r ∷ reads) key valid fit h e =
+    elim (or_cases (is_eq (key_cmp (spelled_key key) r.key)) (list_any (λ (read : KeyRead). is_eq (key_cmp (spelled_key key) read.key)) reads) e) [
+      | inl here ↦
+          (let bytes_are : spelled_key key ≡ r.key = equal_key (spelled_key key) r.key here in
+          let same : h.0.0 ≡ key = one_key_each h.0.0 key (fit (OneKey h.0.0) h.0.2) valid (sym h.0.1 ∙ sym bytes_are) in
+          inl (subst (λ (k : Key). IsArea (OneKey k) areas) same h.0.2))
+      | inr later ↦ key_touched areas reads key valid fit h.1 later
+    ]
+
+and_left : (a b : Bool) → (a && b) ≡ true → a ≡ true
+and_left true b e = refl
+and_left false b e = absurd (let f : false ≡ true = e in cc)
+
+and_right : (a b : Bool) → (a && b) ≡ true → b ≡ true
+and_right true b e = e
+and_right false b e = absurd (let f : false ≡ true = e in cc)
+
+-- from what is below on
+above_both : (low lo key : List ℕ) → is_le (key_cmp low lo) ≡ true → is_ge (key_cmp key lo) ≡ true → is_ge (key_cmp key low) ≡ true
+above_both low lo key l g = by_place (is_ge (key_cmp key low) ≡ true) low lo
+    (λ less. by_place (is_ge (key_cmp key low) ≡ true) key lo
+    (λ under. absurd (let f : false ≡ true = (rw under at g) in cc))
+    (λ same. ap (λ k. is_ge (key_cmp k low)) (key_exact key lo same) ∙ (rw (key_less_flips low lo less) refl))
+    (λ over. (rw (key_less_flips low key (key_trans low lo key less (flipped key lo over))) refl)))
+    (λ same. ap (λ k. is_ge (key_cmp key k)) (key_exact low lo same) ∙ g)
+    (λ more. absurd (let f : false ≡ true = (rw more at l) in cc))
+  where
+    flipped : (a b : List ℕ) → key_cmp a b ≡ Greater → key_cmp b a ≡ Less
+    flipped a b h = key_greater_flips a b h
+
+both_true : (a b : Bool) → a ≡ true → b ≡ true → (a && b) ≡ true
+both_true true b x y = y
+both_true false b x y = absurd (let f : false ≡ true = x in cc)
+
+dent_bytes : (dir : ℕ) (name : List ℕ) → dir_prefix dir ++ name ≡ spelled_key (keys.Dent dir name)
+unfolding spelled_key
+dent_bytes dir name = refl
+
+-- a key in a directory's range is that of an entry in it
+range_key : (dir : ℕ) (lo hi : List ℕ) (key : Key) → IsWord dir → IsSpellable key → IsRangeOf dir lo hi → is_ge (key_cmp (spelled_key key) lo) ≡ true → is_lt (key_cmp (spelled_key key) hi) ≡ true → (name : List ℕ) × (key ≡ keys.Dent dir name)
+range_key dir lo hi key small valid of from to =
+    let low : is_ge (key_cmp (spelled_key key) (dir_prefix dir)) ≡ true = above_both (dir_prefix dir) lo (spelled_key key) of.0 from in
+    let high : is_lt (key_cmp (spelled_key key) (raised (dir_prefix dir))) ≡ true = ap (λ h. is_lt (key_cmp (spelled_key key) h)) (sym of.1) ∙ to in
+    let inside : is_inside (dir_prefix dir) (raised (dir_prefix dir)) (spelled_key key) ≡ true = both_true (is_ge (key_cmp (spelled_key key) (dir_prefix dir))) (is_lt (key_cmp (spelled_key key) (raised (dir_prefix dir)))) low high in
+    let found : (n : List ℕ) × (spelled_key key ≡ dir_prefix dir ++ n) = prefix_of 68 (codes "ENT" ++ to_le_bytes w64 dir) (spelled_key key) inside in
+    (found.0, one_key_each key (keys.Dent dir found.0) valid small (found.1 ∙ dent_bytes dir found.0))
+
+range_touched : (areas : List Area) (reads : List RangeRead) (key : Key) → IsSpellable key → ((area : Area) → IsArea area areas → AreaFits area) → AreRangesTouched areas reads → list_any (λ (read : RangeRead). range_holds read (spelled_key key)) reads ≡ true → IsTouched areas key
+range_touched areas [] key valid fit h e = absurd (let f : false ≡ true = e in cc)
+range_touched areas (r ∷ reads) key valid fit h e =
+    elim (or_cases (range_holds r (spelled_key key)) (list_any (λ (read : RangeRead). range_holds read (spelled_key key)) reads) e) [
+      | inl here ↦
+          (let from_lo : Bool = is_ge (key_cmp (spelled_key key) r.lo) in
+          let below_hi : Bool = is_lt (key_cmp (spelled_key key) r.hi) in
+          let both : (from_lo && below_hi) ≡ true = and_left (from_lo && below_hi) (if length r.rows == r.limit then is_up_to_last r.rows (spelled_key key) else true) here in
+          let from : from_lo ≡ true = and_left from_lo below_hi both in
+          let to : below_hi ≡ true = and_right from_lo below_hi both in
+          let found : (name : List ℕ) × (key ≡ keys.Dent h.0.0 name) = range_key h.0.0 r.lo r.hi key (fit (Entries h.0.0) h.0.1) valid h.0.2 from to in
+          inr (h.0.0, found.0, found.1, h.0.1))
+      | inr later ↦ range_touched areas reads key valid fit h.1 later
+    ]
+
+-- A key that reads hold, where rows of the tree agree with them, is touched.
+pub held_touched : (C : Settings) (q : Request) (reads : ReadSet) (rows : List Row) (T : Tree) (key : Key) → RequestFits q → IsCovered C q reads → IsAscending rows → HasTree C rows T → bytes.Agrees rows reads → IsSpellable key → reads_hold reads (spelled_key key) ≡ true
+    → IsTouched (footprint T q) key
+held_touched C q reads rows T key request covered ascending tree agrees fits held =
+    let S : TypedRows = tree.0 in
+    let areas : List Area = footprint (tree_of S) q in
+    let touched : AreTouched areas reads = covered S tree.2 (record { rows = rows; ascending = ascending; spells = tree.1; agrees = agrees }) in
+    let fit : (area : Area) → IsArea area areas → AreaFits area = area_fits rows S q tree.1 request in
+    let here : IsTouched areas key = elim (or_cases (list_any (λ (read : KeyRead). is_eq (key_cmp (spelled_key key) read.key)) reads.keys) (list_any (λ (read : RangeRead). range_holds read (spelled_key key)) reads.ranges) held) [
+      | inl in_keys ↦ key_touched areas reads.keys key fits fit touched.keys in_keys
+      | inr in_ranges ↦ range_touched areas reads.ranges key fits fit touched.ranges in_ranges
+    ] in
+    subst (λ (t : Tree). IsTouched (footprint t q) key) tree.3 here

@@ -1,0 +1,193 @@
+-- Each way in which a request ends has its receipt.
+use Rattle.std.proofs.Common.{◌≡◌, ℕ, ◌<◌, ◌≤◌, ◌+◌, ◌^◌, ◌⊎◌, inl, inr, List, Some, None, true, false, length, sym, ◌∙◌, ap, refl, subst, arith}
+use Rattle.std.specs.Prelude.{MatchBool, MatchOption, ⊤}
+use Rattle.std.specs.FinMap.{get}
+use Rattle.conflict_sets.specs.Reads as bytes
+use Rattle.conflict_sets.specs.Rows.{value_at_key}
+use Rattle.conflict_sets.specs.declared.sets.Got.{Got}
+use Rattle.conflict_sets.specs.declared.sets.ReadSet.{ReadSet}
+use Rattle.fs_base.specs.Config.{Settings}
+use Rattle.fs_base.specs.declared.call.Request.{Request}
+use Rattle.fs_base.specs.declared.ids.ClientId.{ClientId}
+use Rattle.fs_base.specs.declared.row.Row.{Row}
+use Rattle.key_schema.specs.Keys.{spelled_key}
+use Rattle.key_schema.specs.declared.key.Key.{Key}
+use Rattle.key_schema.specs.declared.key.Key.TheVariants as keys
+use Rattle.kv_store.specs.Journal.{last_writer}
+use Rattle.path_walk.specs.Sound.{IsSoundEntry}
+use Rattle.row_records.specs.Rows.{spelled_kept}
+use Rattle.row_tree.specs.HasTree.{HasTree}
+use Rattle.tree_model.specs.Calls.{apply}
+use Rattle.tree_model.specs.Tree.{Tree}
+use Rattle.tree_model.specs.declared.kept.KeptReply.{KeptReply}
+use Rattle.txn_task.specs.declared.messages.Ask.TheVariants as asks
+use Rattle.txn_task.specs.declared.messages.Entry.{Entry}
+use Rattle.txn_task.specs.declared.outcome.Outcome.{Outcome}
+use Rattle.meta_task.specs.Task.{TaskView, IsKeptReply, IsToldReply}
+use Rattle.meta_task.specs.declared.waiting.Waiting.TheVariants as waits
+use Rattle.client_core.specs.Ops.{request_of}
+use Rattle.client_core.specs.declared.plan.Op.{Op}
+use Rattle.client_core.specs.declared.plan.Script.{Script}
+use Rattle.run_record.specs.Legal.{EntryAt, journal_rows, tree_at, writes_of}
+use Rattle.run_record.specs.Receipts.{AreConflicts, IsFull, IsOf, IsSeen, IsSpent, IsTold, NamesEntry}
+use Rattle.run_record.specs.declared.run.Listed.{Listed}
+use Rattle.world_core.specs.Kept.{AreNamedOr, IsBegun, IsPast, IsUnderWay, last_version, version_after}
+use Rattle.world_core.specs.Ready.{HasEnded, listed_of}
+use Rattle.world_core.specs.Sound.{IsSoundJournal}
+use Rattle.world_core.proofs.Conflicts.{last_version_above, rows_ascending}
+use Rattle.world_core.proofs.Growth.{EntryAt_within}
+use Rattle.world_core.proofs.History.{kept_by, once, row_kept, rows_tree}
+use Rattle.world_core.proofs.Named.{is_own, named_made, named_none, no_entry_fresh, no_entry_new}
+
+-- ---- the receipt
+
+module _ (C : Settings) (attempts : ℕ) (journal : List Entry) (k : ℕ) (script : Script) (op : ℕ) (receipts : List Listed) (front : ℕ) (step : Op) (request : Request) (is : request ≡ request_of script op step) (from : version_after 0 receipts ≤ front) (outcome : Outcome) (conflicts : AreConflicts C journal request front outcome.conflicts) where
+  abbrev listed : Listed
+  listed = listed_of C k op step script.home front outcome
+
+  is_of : IsOf request listed.receipt
+  is_of =
+      record {
+        server = ap (λ (q : Request). Some q.server) (sym is);
+        number = ap (λ (q : Request). Some q.number) (sym is);
+        stamp = ap (λ (q : Request). q.stamp) (sym is);
+        call = ap (λ (q : Request). q.call) (sym is);
+      }
+
+  -- an entry has the reply
+  pub ended_made : IsSoundJournal C journal → (place : ℕ) (e : Entry) → EntryAt journal place e → e.request ≡ request → e.reply ≡ outcome.reply → outcome.committed ≡ true → outcome.version ≡ place + 1 → front ≤ place
+      → AreNamedOr journal script.id receipts request front → HasEnded C attempts journal k script op receipts front step outcome
+  ended_made s place e at same reply committed version above named =
+      let within : place < length journal = EntryAt_within journal place e at in
+      record {
+        receipt = record {
+          request = request;
+          client_is = ap (λ (q : Request). q.client) is;
+          is_of = is_of;
+          front = front;
+          fronts = refl;
+          mark = subst (λ b. MatchBool b (NamesEntry journal request front listed.receipt) (IsSeen C attempts journal request front listed.receipt)) (sym committed)
+              (record {
+                place = place;
+                version = version;
+                entry = e;
+                at = at;
+                client = ap (λ (q : Request). q.client) same;
+                number = ap (λ (q : Request). q.number) same;
+                stamp = ap (λ (q : Request). q.stamp) same;
+                call = ap (λ (q : Request). q.call) same;
+                reply = reply;
+                above = above;
+              });
+          conflicts = conflicts;
+        };
+        from = from;
+        above = omega arith;
+        within = omega arith;
+        named = named_made journal script.id receipts listed request front place e (once C journal s) at same committed version named;
+      }
+
+  -- none has it
+  pub ended_seen : outcome.committed ≡ false → front ≤ outcome.version → outcome.version ≤ length journal → IsTold C journal request listed.receipt ⊎ (IsSpent attempts listed.receipt ⊎ IsFull journal listed.receipt)
+      → ((p : ℕ) (x : Entry) → EntryAt journal p x → x.request ≡ request → ⊥) → AreNamedOr journal script.id receipts request front → HasEnded C attempts journal k script op receipts front step outcome
+  ended_seen committed above within told none named =
+      record {
+        receipt = record {
+          request = request;
+          client_is = ap (λ (q : Request). q.client) is;
+          is_of = is_of;
+          front = front;
+          fronts = refl;
+          mark = subst (λ b. MatchBool b (NamesEntry journal request front listed.receipt) (IsSeen C attempts journal request front listed.receipt)) (sym committed)
+              (record { above = above; within = within; told = told });
+          conflicts = conflicts;
+        };
+        from = from;
+        above = above;
+        within = within;
+        named = named_none journal script.id receipts listed request front none named;
+      }
+
+-- ---- the ways to end
+
+module _ (C : Settings) (attempts : ℕ) (journal : List Entry) (k : ℕ) (script : Script) (op : ℕ) (receipts : List Listed) (front : ℕ) (s : IsSoundJournal C journal) (past : IsPast C attempts journal k script op receipts) (small : script.id.0 < 2 ^ 128) where
+  module _ (task : TaskView) (u : IsUnderWay C attempts journal script op receipts front task) where
+    client_is : task.request.client ≡ script.id
+    client_is = ap (λ (q : Request). q.client) u.request
+
+    number_is : task.request.number ≡ op + 1
+    number_is = ap (λ (q : Request). q.number) u.request
+
+    client_small : task.request.client.0 < 2 ^ 128
+    client_small = subst (λ (c : ClientId). c.0 < 2 ^ 128) (sym client_is) small
+
+    pub front_below : IsBegun C journal task.request.client (last_version front task.conflicts) task → front ≤ task.snapshot
+    front_below b =
+        let up : front ≤ last_version front task.conflicts = last_version_above C journal task.request front task.conflicts u.task_is.conflicts in
+        let from : last_version front task.conflicts ≤ task.snapshot = b.from in
+        omega arith
+
+    pub conflicts_are : (outcome : Outcome) → outcome.conflicts ≡ task.conflicts → AreConflicts C journal task.request front outcome.conflicts
+    conflicts_are outcome is = subst (λ (ps : List (ℕ × Key)). AreConflicts C journal task.request front ps) (sym is) u.task_is.conflicts
+
+    -- what was read tells the reply
+    pub ended_told : (outcome : Outcome) → task.begun ≡ true → outcome.conflicts ≡ task.conflicts → IsToldReply task outcome → HasEnded C attempts journal k script op receipts front u.step outcome
+    ended_told outcome begun conflicts h =
+        let b : IsBegun C journal task.request.client (last_version front task.conflicts) task = u.task_is.begun begun in
+        let T : Tree = tree_at C journal task.snapshot in
+        let told : apply C T task.request ≡ (T, outcome.reply)
+        = subst (λ (c : Settings). apply c T task.request ≡ (T, outcome.reply)) u.task_is.config
+        (h.told (journal_rows C journal task.snapshot) T (rows_ascending C journal s task.snapshot) (subst (λ (c : Settings). HasTree c (journal_rows C journal task.snapshot) T) (sym u.task_is.config) (rows_tree C journal s task.snapshot)) b.agrees) in
+        let within : task.snapshot ≤ length journal = b.within in
+        let up : front ≤ task.snapshot = front_below b in
+        let v : outcome.version ≡ task.snapshot = h.version in
+        ended_seen C attempts journal k script op receipts front u.step task.request u.request u.from outcome (conflicts_are outcome conflicts) h.mark (omega arith) (omega arith)
+        (inl (subst (λ n. apply C (tree_at C journal n) task.request ≡ (tree_at C journal n, outcome.reply)) (sym v) told))
+        (no_entry_new C journal s attempts k script op receipts past front task.request number_is client_is client_small u.named task (last_version front task.conflicts) outcome.reply refl b h.new told)
+        u.named
+
+    -- an earlier attempt committed it
+    pub ended_kept : (key : Key) (got : Got) (outcome : Outcome) → task.begun ≡ true → task.waiting ≡ waits.Reading (asks.Get key)
+        → got.value ≡ value_at_key (journal_rows C journal task.snapshot) (spelled_key key) → got.version ≡ last_writer writes_of journal task.snapshot (spelled_key key)
+        → outcome.conflicts ≡ task.conflicts → IsKeptReply task got outcome → HasEnded C attempts journal k script op receipts front u.step outcome
+    ended_kept key got outcome begun waiting value writer conflicts h =
+        let b : IsBegun C journal task.request.client (last_version front task.conflicts) task = u.task_is.begun begun in
+        let rows : List Row = journal_rows C journal task.snapshot in
+        let T : Tree = tree_at C journal task.snapshot in
+        let key_is : key ≡ keys.Idem task.request.client = same_key key (keys.Idem task.request.client) (sym waiting ∙ h.asked) in
+        let found : value_at_key rows (spelled_key (keys.Idem task.request.client)) ≡ Some (spelled_kept h.row)
+        = ap (λ (x : Key). value_at_key rows (spelled_key x)) (sym key_is) ∙ (sym value ∙ h.found) in
+        let kept : get T.kept task.request.client.0 ≡ Some (record { number = h.row.number; reply = h.row.reply })
+        = row_kept C rows T task.request.client (rows_tree C journal s task.snapshot) client_small h.row h.fits found in
+        elim (kept_by C journal s task.request.client client_small task.snapshot b.within) [
+          | inl none ↦ absurd (let f : None ≡ Some (record { number = h.row.number; reply = h.row.reply }) = sym none ∙ kept in cc)
+          | inr by ↦
+              (let entry_kept : KeptReply = record { number = by.entry.request.number; reply = by.entry.reply } in
+              let row_value : KeptReply = record { number = h.row.number; reply = h.row.reply } in
+              let row : entry_kept ≡ row_value = same_kept entry_kept row_value (sym by.kept ∙ kept) in
+              let numbers : by.entry.request.number ≡ task.request.number = ap (λ (r : KeptReply). r.number) row ∙ h.number in
+              let reply : by.entry.reply ≡ outcome.reply = ap (λ (r : KeptReply). r.reply) row ∙ sym h.reply in
+              let version : outcome.version ≡ by.place + 1 = h.version ∙ (writer ∙ (ap (λ (x : Key). last_writer writes_of journal task.snapshot (spelled_key x)) key_is ∙ by.writer)) in
+              let way : (by.entry.request ≡ task.request) × (front ≤ by.place)
+              = is_own C journal s attempts k script op receipts past front task.request number_is client_is client_small u.named by.place by.entry by.at by.client_is (no_less by.entry.request.number task.request.number numbers) in
+              ended_made C attempts journal k script op receipts front u.step task.request u.request u.from outcome (conflicts_are outcome conflicts) s by.place by.entry by.at way.0 reply h.mark version way.1 u.named)
+        ]
+      where
+        same_key : (x y : Key) → waits.Reading (asks.Get x) ≡ waits.Reading (asks.Get y) → x ≡ y
+        same_key x y e = cc
+
+        same_kept : (x y : KeptReply) → Some x ≡ Some y → x ≡ y
+        same_kept x y e = cc
+
+        no_less : (x y : ℕ) → x ≡ y → y ≤ x
+        no_less x y e = omega arith
+
+    -- the number of an entry that could be committed is new, so the request has none
+    pub no_entry_sound : (e : Entry) → task.begun ≡ true → e.request ≡ task.request → e.reads ≡ task.reads → IsSoundEntry C e → (p : ℕ) (x : Entry) → EntryAt journal p x → x.request ≡ task.request → ⊥
+    no_entry_sound e begun request reads sound p x at same =
+        let b : IsBegun C journal task.request.client (last_version front task.conflicts) task = u.task_is.begun begun in
+        let T : Tree = tree_at C journal task.snapshot in
+        let fresh : MatchOption (get T.kept e.request.client.0) ⊤ (λ kept. kept.number < e.request.number)
+        = sound.fresh (journal_rows C journal task.snapshot) T (rows_ascending C journal s task.snapshot) (rows_tree C journal s task.snapshot) (subst (λ (r : ReadSet). bytes.Agrees (journal_rows C journal task.snapshot) r) (sym reads) b.agrees) in
+        no_entry_fresh C journal s task.request task.snapshot (subst (λ (q : Request). MatchOption (get T.kept q.client.0) ⊤ (λ kept. kept.number < q.number)) request fresh) p x at same
+        (b.own p x at (ap (λ (q : Request). q.client) same))

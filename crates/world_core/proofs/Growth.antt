@@ -1,0 +1,223 @@
+-- What lasts while the journal grows.
+use Rattle.std.proofs.Common.{◌≡◌, ◌≢◌, ℕ, ◌<◌, ◌≤◌, ◌⊎◌, inl, inr, List, [], ◌∷◌, ◌++◌, Option, Some, None, Bool, true, false, length, sym, ◌∙◌, ap, refl, subst, arith, suc, zero}
+use Rattle.std.specs.Prelude.{MatchBool}
+use Rattle.std.proofs.lemmas.List.{take-append-le, length_push}
+use Rattle.conflict_sets.specs.Reads as bytes
+use Rattle.fs_base.specs.Config.{Settings}
+use Rattle.fs_base.specs.declared.call.Request.{Request}
+use Rattle.fs_base.specs.declared.ids.ClientId.{ClientId}
+use Rattle.fs_base.specs.declared.row.Row.{Row}
+use Rattle.key_schema.specs.declared.key.Key.{Key}
+use Rattle.kv_store.specs.Journal.{after_all}
+use Rattle.path_walk.specs.Footprint.{footprint}
+use Rattle.row_tree.specs.Opening.{opening_bytes}
+use Rattle.tree_model.specs.Calls.{apply}
+use Rattle.tree_model.specs.Tree.{Tree, new_tree}
+use Rattle.txn_task.specs.declared.messages.Entry.{Entry}
+use Rattle.txn_task.specs.declared.outcome.Receipt.{Receipt}
+use Rattle.meta_task.specs.Task.{TaskView}
+use Rattle.client_core.specs.declared.plan.Script.{Script}
+use Rattle.run_record.specs.Legal.{EntryAt, tree_after, tree_at, journal_rows, writes_of}
+use Rattle.run_record.specs.Receipts.{AreConflicts, AreReceipts, IsReceipt, IsSeen, NamesEntry, NamesLater}
+use Rattle.run_record.specs.Touched.{IsTouched}
+use Rattle.run_record.specs.declared.run.Listed.{Listed}
+use Rattle.world_core.specs.Kept.{AreNamed, AreNamedOr, IsBegun, IsPast, IsSeat, IsTask, IsUnderWay, IsWork, IsWorking, last_version, version_after}
+use Rattle.world_core.specs.declared.seats.Seat.{Seat}
+use Rattle.world_core.specs.declared.seats.Work.{Work}
+
+-- ---- entries
+
+pub EntryAt-grown : (es : List Entry) (new : Entry) (place : ℕ) (e : Entry) → EntryAt es place e → EntryAt (es ++ new ∷ []) place e
+EntryAt-grown [] new place e at = absurd (let k : None ≡ Some e = at in cc)
+EntryAt-grown (x ∷ es) new zero e at = at
+EntryAt-grown (x ∷ es) new (suc place) e at = EntryAt-grown es new place e at
+
+-- the new entry
+pub EntryAt_new : (es : List Entry) (new : Entry) → EntryAt (es ++ new ∷ []) (length es) new
+EntryAt_new [] new = refl
+EntryAt_new (x ∷ es) new = EntryAt_new es new
+
+-- an entry of the longer journal is an old one or the new one
+pub EntryAt_cases : (es : List Entry) (new : Entry) (place : ℕ) (e : Entry) → EntryAt (es ++ new ∷ []) place e → EntryAt es place e ⊎ ((place ≡ length es) × (e ≡ new))
+EntryAt_cases [] new zero e at = inr (refl, (let k : Some new ≡ Some e = at in cc))
+EntryAt_cases [] new (suc place) e at = absurd (let k : None ≡ Some e = at in cc)
+EntryAt_cases (x ∷ es) new zero e at = inl at
+EntryAt_cases (x ∷ es) new (suc place) e at =
+    elim (EntryAt_cases es new place e at) [ inl old ↦ inl old | inr is ↦ inr (ap (λ n. suc n) is.0, is.1) ]
+
+pub EntryAt_within : (es : List Entry) (place : ℕ) (e : Entry) → EntryAt es place e → place < length es
+EntryAt_within [] place e at = absurd (let k : None ≡ Some e = at in cc)
+EntryAt_within (x ∷ es) zero e at = omega arith
+EntryAt_within (x ∷ es) (suc place) e at = let l : place < length es = EntryAt_within es place e at in omega arith
+
+-- ---- trees and rows
+
+pub tree_at-grown : (C : Settings) (es : List Entry) (new : Entry) (n : ℕ) → n ≤ length es → tree_at C (es ++ new ∷ []) n ≡ tree_at C es n
+tree_at-grown C es new n l = ap (tree_after C (new_tree C)) (take-append-le n es (new ∷ []) l)
+
+pub rows-grown : (C : Settings) (es : List Entry) (new : Entry) (n : ℕ) → n ≤ length es → journal_rows C (es ++ new ∷ []) n ≡ journal_rows C es n
+rows-grown C es new n l = ap (after_all writes_of (opening_bytes C)) (take-append-le n es (new ∷ []) l)
+
+-- ---- receipts
+
+module _ (C : Settings) (es : List Entry) (new : Entry) where
+  NamesLater-grown : (request : Request) (floor : ℕ) (pair : ℕ × Key) → NamesLater C es request floor pair → NamesLater C (es ++ new ∷ []) request floor pair
+  NamesLater-grown request floor pair h =
+      let within : h.place < length es = EntryAt_within es h.place h.entry h.at in
+      let later : h.snapshot ≤ h.place = h.later in
+      let same : tree_at C (es ++ new ∷ []) h.snapshot ≡ tree_at C es h.snapshot = tree_at-grown C es new h.snapshot (omega arith) in
+      record {
+        snapshot = h.snapshot;
+        from = h.from;
+        place = h.place;
+        version = h.version;
+        later = h.later;
+        entry = h.entry;
+        at = EntryAt-grown es new h.place h.entry h.at;
+        other = h.other;
+        wrote = h.wrote;
+        touched = subst (λ (T : Tree). IsTouched (footprint T request) pair.1) (sym same) h.touched;
+      }
+
+  pub AreConflicts-grown : (request : Request) (floor : ℕ) (pairs : List (ℕ × Key)) → AreConflicts C es request floor pairs → AreConflicts C (es ++ new ∷ []) request floor pairs
+  AreConflicts-grown request floor [] h = tt
+  AreConflicts-grown request floor (pair ∷ pairs) h = (NamesLater-grown request floor pair h.0, AreConflicts-grown request pair.0 pairs h.1)
+
+  pub NamesEntry-grown : (request : Request) (front : ℕ) (receipt : Receipt) → NamesEntry es request front receipt → NamesEntry (es ++ new ∷ []) request front receipt
+  NamesEntry-grown request front receipt h =
+      record {
+        place = h.place;
+        version = h.version;
+        entry = h.entry;
+        at = EntryAt-grown es new h.place h.entry h.at;
+        client = h.client;
+        number = h.number;
+        stamp = h.stamp;
+        call = h.call;
+        reply = h.reply;
+        above = h.above;
+      }
+
+  module _ (attempts : ℕ) (room : length es < 200000) where
+    -- a journal that grows wasn't full
+    IsSeen-grown : (request : Request) (front : ℕ) (receipt : Receipt) → IsSeen C attempts es request front receipt → IsSeen C attempts (es ++ new ∷ []) request front receipt
+    IsSeen-grown request front receipt h =
+        let within : receipt.version ≤ length es = h.within in
+        let same : tree_at C (es ++ new ∷ []) receipt.version ≡ tree_at C es receipt.version = tree_at-grown C es new receipt.version within in
+        record {
+          above = h.above;
+          within = omega (arith, length_push es new);
+          told = elim h.told [
+            | inl told ↦ inl (subst (λ (T : Tree). apply C T request ≡ (T, receipt.reply)) (sym same) told)
+            | inr other ↦ elim other [
+              | inl spent ↦ inr (inl spent)
+              | inr full ↦ absurd (let l : length es ≡ 200000 = full.1 in omega arith)
+            ]
+          ];
+        }
+
+    pub IsReceipt-grown : (client : ClientId) (listed : Listed) → IsReceipt C attempts es client listed → IsReceipt C attempts (es ++ new ∷ []) client listed
+    IsReceipt-grown client listed h =
+        record {
+          request = h.request;
+          client_is = h.client_is;
+          is_of = h.is_of;
+          front = h.front;
+          fronts = h.fronts;
+          mark = (elim listed.receipt.committed as (λ b. MatchBool b (NamesEntry es h.request h.front listed.receipt) (IsSeen C attempts es h.request h.front listed.receipt)
+              → MatchBool b (NamesEntry (es ++ new ∷ []) h.request h.front listed.receipt) (IsSeen C attempts (es ++ new ∷ []) h.request h.front listed.receipt)) [
+                | true ↦ λ n. NamesEntry-grown h.request h.front listed.receipt n
+                | false ↦ λ s. IsSeen-grown h.request h.front listed.receipt s
+              ]) h.mark;
+          conflicts = AreConflicts-grown h.request h.front listed.receipt.conflicts h.conflicts;
+        }
+
+    pub AreReceipts-grown : (client : ClientId) (receipts : List Listed) → AreReceipts C attempts es client receipts → AreReceipts C attempts (es ++ new ∷ []) client receipts
+    AreReceipts-grown client [] h = tt
+    AreReceipts-grown client (listed ∷ rest) h = (IsReceipt-grown client listed h.0, AreReceipts-grown client rest h.1)
+
+    pub IsPast-grown : (k : ℕ) (script : Script) (done : ℕ) (receipts : List Listed) → IsPast C attempts es k script done receipts → IsPast C attempts (es ++ new ∷ []) k script done receipts
+    IsPast-grown k script done receipts h =
+        record {
+          follow = h.follow;
+          each = AreReceipts-grown script.id receipts h.each;
+          rises = h.rises;
+          within = (let w : version_after 0 receipts ≤ length es = h.within in omega (arith, length_push es new));
+        }
+
+-- ---- the request under way, where the new entry is another client's
+
+module _ (C : Settings) (es : List Entry) (new : Entry) where
+  pub AreNamed-grown : (client : ClientId) (receipts : List Listed) → new.request.client ≢ client → AreNamed es client receipts → AreNamed (es ++ new ∷ []) client receipts
+  AreNamed-grown client receipts n h place e at mine =
+      elim (EntryAt_cases es new place e at) [
+        | inl old ↦ h place e old mine
+        | inr is ↦ absurd (n (ap (λ (x : Entry). x.request.client) (sym is.1) ∙ mine))
+      ]
+
+  pub AreNamedOr-grown : (client : ClientId) (receipts : List Listed) (request : Request) (front : ℕ) → new.request.client ≢ client → AreNamedOr es client receipts request front → AreNamedOr (es ++ new ∷ []) client receipts request front
+  AreNamedOr-grown client receipts request front n h place e at mine =
+      elim (EntryAt_cases es new place e at) [
+        | inl old ↦ h place e old mine
+        | inr is ↦ absurd (n (ap (λ (x : Entry). x.request.client) (sym is.1) ∙ mine))
+      ]
+
+  pub IsBegun-grown : (client : ClientId) (floor : ℕ) (task : TaskView) → new.request.client ≢ client → IsBegun C es client floor task → IsBegun C (es ++ new ∷ []) client floor task
+  IsBegun-grown client floor task n h =
+      let within : task.snapshot ≤ length es = h.within in
+      record {
+        from = h.from;
+        within = omega (arith, length_push es new);
+        agrees = subst (λ (rows : List Row). bytes.Agrees rows task.reads) (sym (rows-grown C es new task.snapshot within)) h.agrees;
+        covered = h.covered;
+        own = λ place e at mine. elim (EntryAt_cases es new place e at) [
+          | inl old ↦ h.own place e old mine
+          | inr is ↦ absurd (n (ap (λ (x : Entry). x.request.client) (sym is.1) ∙ mine))
+        ];
+      }
+
+  pub IsTask-grown : (attempts front : ℕ) (task : TaskView) → new.request.client ≢ task.request.client → IsTask C attempts es front task → IsTask C attempts (es ++ new ∷ []) front task
+  IsTask-grown attempts front task n h =
+      record {
+        config = h.config;
+        attempts_are = h.attempts_are;
+        conflicts = AreConflicts-grown C es new task.request front task.conflicts h.conflicts;
+        last = (let l : last_version front task.conflicts ≤ length es = h.last in omega (arith, length_push es new));
+        begun = λ b. IsBegun-grown task.request.client (last_version front task.conflicts) task n (h.begun b);
+      }
+
+  pub IsUnderWay-grown : (attempts : ℕ) (script : Script) (op : ℕ) (receipts : List Listed) (front : ℕ) (task : TaskView) → new.request.client ≢ script.id
+      → IsUnderWay C attempts es script op receipts front task → IsUnderWay C attempts (es ++ new ∷ []) script op receipts front task
+  IsUnderWay-grown attempts script op receipts front task n h =
+      let same : task.request.client ≡ script.id = ap (λ (q : Request). q.client) h.request in
+      record {
+        step = h.step;
+        there = h.there;
+        request = h.request;
+        from = h.from;
+        front_in = (let f : front ≤ length es = h.front_in in omega (arith, length_push es new));
+        named = AreNamedOr-grown script.id receipts task.request front n h.named;
+        task_is = IsTask-grown attempts front task (λ e. n (e ∙ same)) h.task_is;
+      }
+
+  pub IsWork-grown : (attempts : ℕ) (script : Script) (op : ℕ) (receipts : List Listed) (work : Work) → new.request.client ≢ script.id
+      → IsWork C attempts es script op receipts work → IsWork C attempts (es ++ new ∷ []) script op receipts work
+  IsWork-grown attempts script op receipts work n h =
+      record { under = IsUnderWay-grown attempts script op receipts work.front work.task n h.under; pending = h.pending; server = h.server }
+
+  pub IsWorking-grown : (attempts : ℕ) (script : Script) (op : ℕ) (receipts : List Listed) (sent : Bool) (work : Option Work) → new.request.client ≢ script.id
+      → IsWorking C attempts es script op receipts sent work → IsWorking C attempts (es ++ new ∷ []) script op receipts sent work
+  IsWorking-grown attempts script op receipts false None n h = AreNamed-grown script.id receipts n h
+  IsWorking-grown attempts script op receipts true (Some work) n h = IsWork-grown attempts script op receipts work n h
+  IsWorking-grown attempts script op receipts false (Some work) n h = absurd h
+  IsWorking-grown attempts script op receipts true None n h = absurd h
+
+  -- an entry of another client leaves a seat as it was
+  pub IsSeat-grown : (attempts k : ℕ) (seat : Seat) → length es < 200000 → new.request.client ≢ seat.client.script.id → IsSeat C attempts es k seat → IsSeat C attempts (es ++ new ∷ []) k seat
+  IsSeat-grown attempts k seat room n h =
+      record {
+        config = h.config;
+        script = h.script;
+        past = IsPast-grown C es new attempts room k seat.client.script seat.client.op seat.receipts h.past;
+        working = IsWorking-grown attempts seat.client.script seat.client.op seat.receipts seat.client.sent seat.work n h.working;
+      }

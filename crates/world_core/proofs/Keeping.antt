@@ -1,0 +1,130 @@
+-- What a call leaves of the kept replies: an update changes none, before its own is kept.
+use Rattle.std.proofs.Common.{◌≡◌, ◌≢◌, ℕ, ◌<◌, ◌==◌, nat_lt, Bool, true, false, cond, List, refl, ap, subst, ◌∙◌, arith, ne_eqb, le-ltb, MatchOption}
+use Rattle.std.specs.Prelude.{Option, Some, None, Result, Ok, Err, ⊤}
+use Rattle.std.specs.FinMap.{get}
+use Rattle.fs_base.specs.Config.{Settings}
+use Rattle.fs_base.specs.Paths.{path_of}
+use Rattle.fs_base.specs.declared.call.Call.{Call}
+use Rattle.fs_base.specs.declared.call.Call.TheVariants as calls
+use Rattle.fs_base.specs.declared.call.Place.{Place}
+use Rattle.fs_base.specs.declared.call.Request.{Request}
+use Rattle.fs_base.specs.declared.code.Code.{Code}
+use Rattle.fs_base.specs.declared.code.Code.TheVariants.{Stale}
+use Rattle.fs_base.specs.declared.path.Path.{Path}
+use Rattle.fs_base.specs.declared.reply.Reply.{Reply}
+use Rattle.fs_base.specs.declared.reply.Reply.TheVariants.{Refused}
+use Rattle.tree_model.specs.declared.kept.KeptReply.{KeptReply}
+use Rattle.tree_model.specs.declared.new_node.NewNode.{NewNode}
+use Rattle.tree_model.specs.declared.node.Node.{Node}
+use Rattle.tree_model.specs.declared.node.NodePart.{NodePart}
+use Rattle.tree_model.specs.declared.node.NodePart.TheVariants.{Dir, File, Link}
+use Rattle.tree_model.specs.declared.walk.Walked.{Walked}
+use Rattle.tree_model.specs.declared.walk.Walked.TheVariants.{At, AtParent, NoName, Stopped}
+use Rattle.tree_model.specs.declared.walk.WalkEnd.TheVariants.{Follow, Parent}
+use Rattle.tree_model.specs.Calls.{effect, effect_of, apply, is_query, settle, after_kept}
+use Rattle.tree_model.specs.Creating.{make, make_at, add_child, add_in, unless_there, is_layout, new_dir, new_file, new_link}
+use Rattle.tree_model.specs.Effects.{Effect, Leaves, Makes, refuses, on_path}
+use Rattle.tree_model.specs.Finding.{if_there, on_node}
+use Rattle.tree_model.specs.Tree.{Tree, next_at}
+use Rattle.tree_model.specs.Walk.{resolve}
+use Rattle.tree_model.proofs.MapLaws.{ids, get-set_same, get-set_other}
+
+-- ---- effects
+
+-- what is kept is as it was
+abbrev pub Keeps : Tree → Effect → Type 0
+Keeps T (Leaves reply) = Unit {0}
+Keeps T (Makes tree reply) = tree.kept ≡ T.kept
+
+by_words : (P : Effect → Type 0) (path : Result Path Code) (then : Path → Effect) → ((code : Code) → P (refuses code)) → ((path : Path) → P (then path)) → P (on_path path then)
+by_words P (Err code) then refused going = refused code
+by_words P (Ok path) then refused going = going path
+
+by_choice : (P : Effect → Type 0) (b : Bool) (this that : Effect) → P this → P that → P (cond b this that)
+by_choice P true this that p q = p
+by_choice P false this that p q = q
+
+by_node : (P : Effect → Type 0) (T : Tree) (walked : Walked) (then : ℕ → Node → Effect) → ((code : Code) → P (refuses code)) → ((id : ℕ) (node : Node) → P (then id node)) → P (on_node T walked then)
+by_node P T (At id kind) then refused going = here (get T.nodes id)
+  where
+    here : (o : Option Node) → P (if_there o (then id))
+    here None = refused _
+    here (Some node) = going id node
+by_node P T (Stopped code) then refused going = refused code
+by_node P T (AtParent id name) then refused going = refused _
+by_node P T (NoName id) then refused going = refused _
+
+module _ (C : Settings) (T : Tree) (server stamp : ℕ) (node : NewNode) where
+  added : (dir : ℕ) (name : List ℕ) (parent : NodePart) → Keeps T (add_in C T server stamp node dir name parent)
+  added dir name (Dir layout) = by_choice (Keeps T) (next_at T.next server == 4294967295) _ _ tt refl
+  added dir name (File length truncs layout hint) = tt
+  added dir name (Link target) = tt
+
+  child : (dir : ℕ) (name : List ℕ) (o : Option Node) → Keeps T (add_child C T server stamp node dir name o)
+  child dir name None = tt
+  child dir name (Some parent) = added dir name parent.part
+
+  free : (dir : ℕ) (name : List ℕ) (o : Option ℕ) → Keeps T (unless_there o (add_child C T server stamp node dir name (get T.nodes dir)))
+  free dir name None = child dir name (get T.nodes dir)
+  free dir name (Some id) = tt
+
+  made : (walked : Walked) → Keeps T (make_at C T server stamp node walked)
+  made (At id kind) = tt
+  made (NoName id) = tt
+  made (Stopped code) = tt
+  made (AtParent dir name) = free dir name (get T.entries (dir, name))
+
+  makes : (place : Place) → Keeps T (make C T server stamp node place)
+  makes place = by_words (Keeps T) (path_of place.text) _ (λ code. tt) (λ path. by_choice (Keeps T) (is_layout C node.layout) _ _ (made (resolve T place.base path Parent)) tt)
+
+pub update_keeps : (C : Settings) (T : Tree) (q : Request) (call : Call) → is_query call ≡ false → Keeps T (effect_of C T q call)
+update_keeps C T q (calls.Mkdir place mode layout) is = makes C T q.server q.stamp (new_dir mode layout) place
+update_keeps C T q (calls.Create place mode layout) is = makes C T q.server q.stamp (new_file mode layout) place
+update_keeps C T q (calls.Symlink place target) is =
+    by_words (Keeps T) (path_of place.text) _ (λ code. tt) (λ path. by_words (Keeps T) (path_of target) _ (λ code. tt) (λ leads. made C T q.server q.stamp (new_link target) (resolve T place.base path Parent)))
+update_keeps C T q (calls.Setattr place changes) is = by_words (Keeps T) (path_of place.text) _ (λ code. tt) (λ path. by_node (Keeps T) T (resolve T place.base path Follow) _ (λ code. tt) (λ id node. refl))
+update_keeps C T q (calls.Lookup place) is = absurd (cc)
+update_keeps C T q (calls.Stat place) is = absurd (cc)
+update_keeps C T q (calls.List place) is = absurd (cc)
+update_keeps C T q (calls.Readlink place) is = absurd (cc)
+update_keeps C T q _ is = tt
+
+-- ---- a call with a new number
+
+abbrev pub IsNew : Option KeptReply → ℕ → Type 0
+IsNew o number = MatchOption o ⊤ (λ kept. kept.number < number)
+
+fresh : (C : Settings) (T : Tree) (q : Request) (o : Option KeptReply) → IsNew o q.number → after_kept C T q o ≡ settle T q (effect C T q)
+fresh C T q None h = refl
+fresh C T q (Some kept) h =
+    let other : (kept.number == q.number) ≡ false = ne_eqb kept.number q.number (λ e. omega arith) in
+    let later : nat_lt q.number kept.number ≡ false = le-ltb q.number kept.number (omega arith) in
+    ap (λ b. cond b (T, kept.reply) (cond (nat_lt q.number kept.number) (T, Refused (Stale kept.number)) (settle T q (effect C T q)))) other
+    ∙ ap (λ b. cond b (T, Refused (Stale kept.number)) (settle T q (effect C T q))) later
+
+-- it has its effect
+pub apply_new : (C : Settings) (T : Tree) (q : Request) → IsNew (get T.kept q.client.0) q.number → apply C T q ≡ settle T q (effect C T q)
+unfolding apply
+apply_new C T q new = here (is_query q.call)
+  where
+    here : (b : Bool) → cond b (settle T q (effect C T q)) (after_kept C T q (get T.kept q.client.0)) ≡ settle T q (effect C T q)
+    here true = refl
+    here false = fresh C T q (get T.kept q.client.0) new
+
+abbrev pub kept_as : Request → Reply → KeptReply
+kept_as q reply = record { number = q.number; reply = reply }
+
+-- an update that makes a tree keeps its reply, and leaves what is kept of other clients
+module _ (C : Settings) (T : Tree) (q : Request) (V : Tree) (reply : Reply) (update : is_query q.call ≡ false) (new : IsNew (get T.kept q.client.0) q.number) (is : effect C T q ≡ Makes V reply) where
+  kept_tree : (apply C T q).0 ≡ (settle T q (Makes V reply)).0
+  kept_tree = ap (λ (x : Tree × Reply). x.0) (apply_new C T q new) ∙ ap (λ (f : Effect). (settle T q f).0) is
+
+  pub kept_own : get (apply C T q).0.kept q.client.0 ≡ Some (kept_as q reply)
+  kept_own = ap (λ (x : Tree). get x.kept q.client.0) kept_tree ∙ get-set_same ids V.kept q.client.0 (Some (kept_as q reply))
+
+  pub kept_other : (client : ℕ) → client ≢ q.client.0 → get (apply C T q).0.kept client ≡ get T.kept client
+  kept_other client apart =
+      let same : V.kept ≡ T.kept = subst (Keeps T) is (update_keeps C T q q.call update) in
+      ap (λ (x : Tree). get x.kept client) kept_tree
+      ∙ (get-set_other ids V.kept q.client.0 (Some (kept_as q reply)) client apart
+      ∙ ap (λ m. get m client) same)

@@ -1,0 +1,232 @@
+-- From clients that have ended to the record of their run.
+use Rattle.std.proofs.Common.{◌≡◌, ◌≢◌, ℕ, zero, suc, ◌+◌, ◌<◌, ◌≤◌, inl, inr, List, [], ◌∷◌, ◌++◌, map, Option, Some, None, Bool, true, false, cond, eqb, nat_le, length, take, count_by, MatchBool, refl, sym, ap, subst, ◌∙◌, arith, zero-add}
+use Rattle.std.specs.Prelude.{slice_get}
+use Rattle.std.proofs.lemmas.Bool.{and_parts, and_from, cases_Bool, eqb-true, eq-eqb, leb-true}
+use Rattle.std.proofs.lemmas.List.{take_all}
+use Rattle.std.proofs.lemmas.List.Sums.{sum_by-append, sum_by-cons}
+use Rattle.std.proofs.lemmas.Option.{same_Some}
+use Rattle.fs_base.specs.Config.{Settings}
+use Rattle.fs_base.specs.declared.ids.ClientId.{ClientId}
+use Rattle.path_walk.specs.Footprint.{footprint}
+use Rattle.row_tree.specs.HasTree.{HasTree}
+use Rattle.tree_model.specs.Tree.{Tree}
+use Rattle.txn_task.specs.declared.messages.Entry.{Entry}
+use Rattle.client_core.specs.Client.{ClientView, has_ended}
+use Rattle.client_core.specs.Plans.{AreDistinct}
+use Rattle.client_core.specs.declared.plan.Op.{Op}
+use Rattle.client_core.specs.declared.plan.Script.{Script}
+use Rattle.run_record.specs.Legal.{EntryAt, IsLegal, journal_rows, tree_at}
+use Rattle.run_record.specs.Receipts.{AreReceipts, Follow, IsReceipt, IsSection, IsSeen, NamesEntry}
+use Rattle.run_record.specs.Right.{AreSections, IsRight, IsRightEntry, names_place, summary_of}
+use Rattle.run_record.specs.Touched.{AreTouched}
+use Rattle.run_record.specs.declared.run.Listed.{Listed}
+use Rattle.run_record.specs.declared.run.Record.{Record}
+use Rattle.world_core.specs.Kept.{AreCovered, AreNamed, HasReceipt, IsSeat, IsWorking}
+use Rattle.world_core.specs.Objects.{entries_of}
+use Rattle.world_core.specs.Sound.{IsSoundJournal}
+use Rattle.world_core.specs.World.{AreSeated, HaveEnded, WorldView, plan_of, receipts_in, scripts_of}
+use Rattle.world_core.specs.declared.seats.Seat.{Seat}
+use Rattle.world_core.specs.declared.seats.Work.{Work}
+use Rattle.world_core.proofs.History.{entry_sound, legal, rows_ascend, rows_tree}
+use Rattle.world_core.proofs.Seating.{one_seat}
+
+-- ---- each entry
+
+pub entry_right : (C : Settings) (journal : List Entry) (place : ℕ) (e : Entry) → IsSoundJournal C journal → AreCovered C journal → EntryAt journal place e → IsRightEntry C journal place e
+entry_right C journal place e s covered at =
+    let sound = entry_sound C journal s place e at in
+    let tree : HasTree C (journal_rows C journal place) (tree_at C journal place) = rows_tree C journal s place in
+    record {
+      agrees = sound.1;
+      touched = subst (λ (T : Tree). AreTouched (footprint T e.request) e.reads) tree.3
+          (covered place e at tree.0 tree.2 (record { rows = journal_rows C journal place; ascending = rows_ascend C journal s place; spells = tree.1; agrees = sound.1 }));
+      none_asked = sound.0.none_asked;
+    }
+
+-- ---- each client's receipts
+
+-- nothing is under way or left
+ended_parts : (sent : Bool) (len op : ℕ) → cond sent false (nat_le len op) ≡ true → (sent ≡ false) × (len ≤ op)
+ended_parts true len op e = absurd (let f : false ≡ true = e in cc)
+ended_parts false len op e = (refl, leb-true len op e)
+
+ended_is : (c : ClientView) → has_ended c ≡ true → (c.sent ≡ false) × (length c.script.ops ≤ c.op)
+ended_is c e = ended_parts c.sent (length c.script.ops) c.op e
+
+section : (C : Settings) (attempts : ℕ) (journal : List Entry) (k : ℕ) (seat : Seat) → IsSeat C attempts journal k seat → has_ended seat.client ≡ true → IsSection C attempts journal k seat.client.script seat.receipts
+section C attempts journal k seat h ended =
+    let all : take seat.client.op seat.client.script.ops ≡ seat.client.script.ops = take_all seat.client.op seat.client.script.ops (ended_is seat.client ended).1 in
+    record {
+      follow = subst (λ (steps : List Op). Follow k seat.client.script 0 steps seat.receipts) all h.past.follow;
+      each = h.past.each;
+      rises = h.past.rises;
+    }
+
+pub sections : (C : Settings) (attempts : ℕ) (journal : List Entry) (seats : List Seat) (base : ℕ)
+    → ((k : ℕ) (seat : Seat) → slice_get seats k ≡ Some seat → IsSeat C attempts journal (base + k) seat × (has_ended seat.client ≡ true))
+    → AreSections C attempts journal base (scripts_of seats) (receipts_in seats)
+sections C attempts journal [] base each = refl
+sections C attempts journal (seat ∷ seats) base each =
+    let first : IsSeat C attempts journal (base + 0) seat × (has_ended seat.client ≡ true) = each 0 seat refl in
+    let here : base + 0 ≡ base = omega arith in (
+      seat.receipts,
+      receipts_in seats,
+      refl,
+      section C attempts journal base seat (subst (λ n. IsSeat C attempts journal n seat) here first.0) first.1,
+      sections C attempts journal seats (base + 1) (λ k z at.
+          (let later : IsSeat C attempts journal (base + suc k) z × (has_ended z.client ≡ true) = each (suc k) z at in
+          let same : base + suc k ≡ (base + 1) + k = omega arith in
+          (subst (λ n. IsSeat C attempts journal n z) same later.0, later.1))),
+    )
+
+-- ---- each entry has one receipt
+
+abbrev naming : ℕ → List Listed → ℕ
+naming place receipts = count_by (names_place place) receipts
+
+abbrev one_if : Bool → ℕ
+one_if b = cond b 1 0
+
+-- the first receipt and the others
+naming_next : (place : ℕ) (listed : Listed) (rest : List Listed) → naming place (listed ∷ rest) ≡ one_if (names_place place listed) + naming place rest
+naming_next place listed rest = sum_by-cons (λ (r : Listed). one_if (names_place place r)) listed rest
+
+naming_both : (place : ℕ) (own rest : List Listed) → naming place (own ++ rest) ≡ naming place own + naming place rest
+naming_both place own rest = sum_by-append (λ (r : Listed). one_if (names_place place r)) own rest
+
+skipped : (place : ℕ) (listed : Listed) (rest : List Listed) → names_place place listed ≡ false → naming place (listed ∷ rest) ≡ naming place rest
+skipped place listed rest other =
+    naming_next place listed rest ∙ ap (λ (b : Bool). one_if b + naming place rest) other ∙ zero-add (naming place rest)
+
+counted : (place : ℕ) (listed : Listed) (rest : List Listed) → names_place place listed ≡ true → naming place (listed ∷ rest) ≡ 1 + naming place rest
+counted place listed rest names =
+    naming_next place listed rest ∙ ap (λ (b : Bool). one_if b + naming place rest) names
+
+module _ (C : Settings) (attempts : ℕ) (journal : List Entry) (place : ℕ) (e : Entry) (at : EntryAt journal place e) where
+  -- a receipt that names the entry has its number, and is its client's
+  named_is : (client : ClientId) (listed : Listed) → IsReceipt C attempts journal client listed → names_place place listed ≡ true → (e.request.client ≡ client) × (listed.receipt.number ≡ Some e.request.number)
+  named_is client listed h names =
+      let parts : (listed.receipt.committed ≡ true) × (eqb listed.receipt.version (place + 1) ≡ true) = and_parts listed.receipt.committed (eqb listed.receipt.version (place + 1)) names in
+      let named : NamesEntry journal h.request h.front listed.receipt =
+      subst (λ b. MatchBool b (NamesEntry journal h.request h.front listed.receipt) (IsSeen C attempts journal h.request h.front listed.receipt)) parts.0 h.mark in
+      let version : listed.receipt.version ≡ place + 1 = eqb-true listed.receipt.version (place + 1) parts.1 in
+      let version_named : listed.receipt.version ≡ named.place + 1 = named.version in
+      let places : named.place ≡ place = omega arith in
+      let one : named.entry ≡ e = same_Some named.entry e (sym named.at ∙ (ap (slice_get journal) places ∙ at)) in (
+        ap (λ (x : Entry). x.request.client) (sym one) ∙ (named.client ∙ h.client_is),
+        h.is_of.number ∙ ap (λ (n : ℕ). Some n) (sym named.number ∙ ap (λ (x : Entry). x.request.number) one),
+      )
+
+  -- another client's receipts don't name it
+  none_other : (client : ClientId) (receipts : List Listed) → e.request.client ≢ client → AreReceipts C attempts journal client receipts → naming place receipts ≡ 0
+  none_other client [] n h = refl
+  none_other client (listed ∷ rest) n h = elim (cases_Bool (names_place place listed)) [
+    | inl names ↦ absurd (n (named_is client listed h.0 names).0)
+    | inr other ↦ skipped place listed rest other ∙ none_other client rest n h.1
+  ]
+
+  -- a receipt in its script's order that names the entry has its ordinal
+  ordinal_is : (k : ℕ) (script : Script) (op : ℕ) (step : Op) (steps : List Op) (listed : Listed) (rest : List Listed) → IsReceipt C attempts journal script.id listed → Follow k script op (step ∷ steps) (listed ∷ rest)
+      → names_place place listed ≡ true → e.request.number ≡ op + 1
+  ordinal_is k script op step steps listed rest h follow names =
+      same_Some e.request.number (op + 1) (sym (named_is script.id listed h names).1 ∙ follow.2.number)
+
+  -- nor do receipts of later operations
+  none_later : (k : ℕ) (script : Script) (op : ℕ) (steps : List Op) (receipts : List Listed) → e.request.number ≤ op → AreReceipts C attempts journal script.id receipts → Follow k script op steps receipts → naming place receipts ≡ 0
+  none_later k script op steps [] l h follow = refl
+  none_later k script op [] (listed ∷ rest) l h follow = absurd follow
+  none_later k script op (step ∷ steps) (listed ∷ rest) l h follow = elim (cases_Bool (names_place place listed)) [
+    | inl names ↦ absurd (let n : e.request.number ≡ op + 1 = ordinal_is k script op step steps listed rest h.0 follow names in omega arith)
+    | inr other ↦ skipped place listed rest other ∙ none_later k script (op + 1) steps rest (omega arith) h.1 follow.4
+  ]
+
+  -- of a client's receipts one does
+  one_receipt : (k : ℕ) (script : Script) (op : ℕ) (steps : List Op) (receipts : List Listed) → AreReceipts C attempts journal script.id receipts → Follow k script op steps receipts → HasReceipt receipts place → naming place receipts ≡ 1
+  one_receipt k script op steps [] h follow has = absurd has
+  one_receipt k script op [] (listed ∷ rest) h follow has = absurd follow
+  one_receipt k script op (step ∷ steps) (listed ∷ rest) h follow has = elim (cases_Bool (names_place place listed)) [
+    | inl names ↦
+        (let number : e.request.number ≡ op + 1 = ordinal_is k script op step steps listed rest h.0 follow names in
+        let none : naming place rest ≡ 0 = none_later k script (op + 1) steps rest (omega arith) h.1 follow.4 in
+        let first : naming place (listed ∷ rest) ≡ 1 + naming place rest = counted place listed rest names in
+        omega arith)
+    | inr other ↦ elim has [
+      | inl here ↦ absurd (let f : true ≡ false = sym (and_from listed.receipt.committed (eqb listed.receipt.version (place + 1)) here.0 (eq-eqb listed.receipt.version (place + 1) here.1)) ∙ other in cc)
+      | inr later ↦ skipped place listed rest other ∙ one_receipt k script (op + 1) steps rest h.1 follow.4 later
+    ]
+  ]
+
+-- ---- and of all receipts
+
+none_in : (place : ℕ) (seats : List Seat) → ((j : ℕ) (z : Seat) → slice_get seats j ≡ Some z → naming place z.receipts ≡ 0) → naming place (receipts_in seats) ≡ 0
+none_in place [] none = refl
+none_in place (seat ∷ seats) none =
+    let first : naming place seat.receipts ≡ 0 = none 0 seat refl in
+    let others : naming place (receipts_in seats) ≡ 0 = none_in place seats (λ j z at. none (suc j) z at) in
+    let both : naming place (seat.receipts ++ receipts_in seats) ≡ naming place seat.receipts + naming place (receipts_in seats) = naming_both place seat.receipts (receipts_in seats) in
+    omega arith
+
+one_in : (place : ℕ) (seats : List Seat) (k : ℕ) (x : Seat) → slice_get seats k ≡ Some x → naming place x.receipts ≡ 1 → ((j : ℕ) (z : Seat) → j ≢ k → slice_get seats j ≡ Some z → naming place z.receipts ≡ 0) → naming place (receipts_in seats) ≡ 1
+one_in place [] k x at one none = absurd (let n : None ≡ Some x = at in cc)
+one_in place (seat ∷ seats) zero x at one none =
+    let first : naming place seat.receipts ≡ 1 = ap (λ (w : Seat). naming place w.receipts) (same_Some seat x at) ∙ one in
+    let others : naming place (receipts_in seats) ≡ 0 = none_in place seats (λ j z at_z. none (suc j) z (λ same. omega arith) at_z) in
+    let both : naming place (seat.receipts ++ receipts_in seats) ≡ naming place seat.receipts + naming place (receipts_in seats) = naming_both place seat.receipts (receipts_in seats) in
+    omega arith
+one_in place (seat ∷ seats) (suc k) x at one none =
+    let first : naming place seat.receipts ≡ 0 = none 0 seat (λ same. omega arith) refl in
+    let others : naming place (receipts_in seats) ≡ 1 = one_in place seats k x at one (λ j z apart at_z. none (suc j) z (λ same. apart (omega arith)) at_z) in
+    let both : naming place (seat.receipts ++ receipts_in seats) ≡ naming place seat.receipts + naming place (receipts_in seats) = naming_both place seat.receipts (receipts_in seats) in
+    omega arith
+
+entry_in : (journal : List Entry) (place : ℕ) → place < length journal → (e : Entry) × EntryAt journal place e
+entry_in [] place l = absurd (omega arith)
+entry_in (x ∷ journal) zero l = (x, refl)
+entry_in (x ∷ journal) (suc place) l = entry_in journal place (omega arith)
+
+-- a client that has ended has a receipt of each entry
+named_ended : (C : Settings) (attempts : ℕ) (journal : List Entry) (script : Script) (op : ℕ) (receipts : List Listed) (sent : Bool) (work : Option Work) → sent ≡ false → IsWorking C attempts journal script op receipts sent work → AreNamed journal script.id receipts
+named_ended C attempts journal script op receipts false None e h = h
+named_ended C attempts journal script op receipts false (Some work) e h = absurd h
+named_ended C attempts journal script op receipts true None e h = absurd h
+named_ended C attempts journal script op receipts true (Some work) e h = absurd (let f : true ≡ false = e in cc)
+
+pub named_once : (C : Settings) (attempts : ℕ) (journal : List Entry) (seats : List Seat) → AreDistinct (scripts_of seats) → AreSeated C attempts journal seats → HaveEnded seats → (place : ℕ) → place < length journal → count_by (names_place place) (receipts_in seats) ≡ 1
+named_once C attempts journal seats distinct seated ended place l =
+    let here : (e : Entry) × EntryAt journal place e = entry_in journal place l in
+    owned here.0 here.1 (seated.owned place here.0 here.1)
+  where
+    owned : (e : Entry) → EntryAt journal place e → (k : ℕ) × (seat : Seat) × (slice_get seats k ≡ Some seat) × (e.request.client ≡ seat.client.script.id) → naming place (receipts_in seats) ≡ 1
+    owned e at owner =
+        let x : Seat = owner.1 in
+        let h : IsSeat C attempts journal owner.0 x = seated.all owner.0 x owner.2 in
+        let still : x.client.sent ≡ false = (ended_is x.client (ended owner.0 x owner.2)).0 in
+        let has : HasReceipt x.receipts place = named_ended C attempts journal x.client.script x.client.op x.receipts x.client.sent x.work still h.working place e at owner.3 in
+        one_in place seats owner.0 x owner.2
+        (one_receipt C attempts journal place e at owner.0 x.client.script 0 (take x.client.op x.client.script.ops) x.receipts h.past.each h.past.follow has)
+        (λ j z apart at_z. none_other C attempts journal place e at z.client.script.id z.receipts
+        (λ same. apart (one_seat seats j owner.0 z x distinct at_z owner.2 (sym same ∙ owner.3))) (seated.all j z at_z).past.each)
+
+-- ---- the record
+
+pub right_record : (w : WorldView) (run : Record) → IsSoundJournal w.config (entries_of w.objects.store.journal) → AreDistinct (scripts_of w.seats) → AreSeated w.config w.attempts (entries_of w.objects.store.journal) w.seats → HaveEnded w.seats
+    → run.config ≡ w.config → run.clients ≡ map (λ (script : Script). script.id) (scripts_of w.seats) → run.receipts ≡ receipts_in w.seats → run.entries ≡ entries_of w.objects.store.journal → run.summary ≡ summary_of run.receipts run.entries
+    → IsRight (plan_of w) run
+right_record w run s distinct seated ended config clients receipts entries summary =
+    let C : Settings = w.config in
+    let journal : List Entry = entries_of w.objects.store.journal in
+    let named : (place : ℕ) → place < length journal → naming place (receipts_in w.seats) ≡ 1 = named_once C w.attempts journal w.seats distinct seated ended in
+    record {
+      config = config;
+      clients = clients;
+      legal = subst (λ (es : List Entry). IsLegal C es) (sym entries) (legal C journal s);
+      rows = subst (λ (es : List Entry). (n : ℕ) → HasTree C (journal_rows C es n) (tree_at C es n)) (sym entries) (rows_tree C journal s);
+      entries = subst (λ (es : List Entry). (place : ℕ) (e : Entry) → EntryAt es place e → IsRightEntry C es place e) (sym entries) (λ place e at. entry_right C journal place e s seated.covered at);
+      sections = subst (λ (es : List Entry). AreSections C w.attempts es 0 (scripts_of w.seats) run.receipts) (sym entries)
+          (subst (λ (rs : List Listed). AreSections C w.attempts journal 0 (scripts_of w.seats) rs) (sym receipts)
+          (sections C w.attempts journal w.seats 0 (λ k z at.
+          (let same : k ≡ 0 + k = omega arith in (subst (λ n. IsSeat C w.attempts journal n z) same (seated.all k z at), ended k z at)))));
+      named = subst (λ (es : List Entry). (place : ℕ) → place < length es → naming place run.receipts ≡ 1) (sym entries)
+          (subst (λ (rs : List Listed). (place : ℕ) → place < length journal → naming place rs ≡ 1) (sym receipts) named);
+      summary = summary;
+    }

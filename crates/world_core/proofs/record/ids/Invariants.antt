@@ -1,0 +1,6 @@
+use Rattle.std.proofs.Common.{◌≡◌, map, take}
+use Rattle.world_core.specs.World.{scripts_of}
+use Rattle.world_core.proofs.record.ids.Given as goal
+
+abbrev pub invariant-loop-seat : goal.invariant-loop-seat
+invariant-loop-seat l = l.ids ≡ map (λ script. script.id) (scripts_of (take l.seat-index l.seats))

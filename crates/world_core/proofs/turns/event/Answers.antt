@@ -1,0 +1,49 @@
+use Rattle.std.proofs.Common.{◌∙◌}
+use Rattle.world_core.specs.Objects.{entries_of}
+use Rattle.world_core.proofs.Calls.{config_grown, open_grown}
+use Rattle.world_core.proofs.Seating.{growth_there, scripts_there, seat_kept, seated_there}
+use Rattle.world_core.proofs.turns.event.Goals as goal
+
+pub start-requires-clause-seat : goal.start-requires-clause-seat
+start-requires-clause-seat c =
+    seat_kept c.args.config c.args.attempts (entries_of c.args.store.now.journal) c.args.seats.now.items c.from.result c.args.k c.index_mut-seat.result.now c.requires.seated.all c.from.ensures c.requires.within c.index_mut-seat.ensures.value
+
+pub returns-in_err-start-clause-scripts : goal.returns-in_err-start-clause-scripts
+returns-in_err-start-clause-scripts c =
+    scripts_there c.args.seats.now.items c.from.result c.args.k c.index_mut-seat.result.now c.start.new.seat c.from.ensures c.requires.within c.index_mut-seat.ensures.value c.start.ensures.script
+
+pub returns-in_err-go_on-clause-scripts : goal.returns-in_err-go_on-clause-scripts
+returns-in_err-go_on-clause-scripts c =
+    scripts_there c.args.seats.now.items c.from.result c.args.k c.index_mut-seat.result.now c.go_on.new.seat c.from.ensures c.requires.within c.index_mut-seat.ensures.value (c.go_on.ensures.script ∙ c.start.ensures.script)
+
+pub returns-in_err-go_on-clause-step : goal.returns-in_err-go_on-clause-step
+returns-in_err-go_on-clause-step c =
+    growth_there c.args.seats.now.items c.from.result c.args.k c.index_mut-seat.result.now c.start.new.seat c.args.store.now c.go_on.new.store c.from.ensures c.requires.within c.index_mut-seat.ensures.value c.start.ensures.script c.go_on.ensures.step
+
+pub sound_store-requires-2 : goal.sound_store-requires-2
+sound_store-requires-2 c = open_grown c.args.store.now c.go_on.new.store c.start.new.seat.client.script.id c.requires.begun c.go_on.ensures.step
+
+pub returns-clause-seated : goal.returns-clause-seated
+returns-clause-seated c =
+    seated_there c.args.config c.args.attempts c.args.store.now c.go_on.new.store c.args.seats.now.items c.from.result c.args.k c.index_mut-seat.result.now c.start.new.seat c.go_on.new.seat c.from.ensures c.requires.within c.index_mut-seat.ensures.value
+    c.requires.distinct c.sound_store.ensures.few c.sound_store-2.ensures.few c.requires.seated c.start.ensures.script c.go_on.ensures.script c.go_on.ensures.step c.in_ok-go_on.ensures.seat c.in_ok-go_on.ensures.covered
+
+pub returns-clause-scripts : goal.returns-clause-scripts
+returns-clause-scripts c =
+    scripts_there c.args.seats.now.items c.from.result c.args.k c.index_mut-seat.result.now c.go_on.new.seat c.from.ensures c.requires.within c.index_mut-seat.ensures.value (c.go_on.ensures.script ∙ c.start.ensures.script)
+
+pub returns-clause-step : goal.returns-clause-step
+returns-clause-step c =
+    growth_there c.args.seats.now.items c.from.result c.args.k c.index_mut-seat.result.now c.start.new.seat c.args.store.now c.go_on.new.store c.from.ensures c.requires.within c.index_mut-seat.ensures.value c.start.ensures.script c.go_on.ensures.step
+
+pub returns-in_err-go_on-clause-config : goal.returns-in_err-go_on-clause-config
+returns-in_err-go_on-clause-config c = config_grown c.args.store.now c.go_on.new.store c.start.new.seat.client.script.id c.go_on.ensures.step
+
+pub returns-in_err-go_on-clause-begun : goal.returns-in_err-go_on-clause-begun
+returns-in_err-go_on-clause-begun c = open_grown c.args.store.now c.go_on.new.store c.start.new.seat.client.script.id c.requires.begun c.go_on.ensures.step
+
+pub returns-clause-config : goal.returns-clause-config
+returns-clause-config c = config_grown c.args.store.now c.go_on.new.store c.start.new.seat.client.script.id c.go_on.ensures.step
+
+pub returns-clause-begun : goal.returns-clause-begun
+returns-clause-begun c = open_grown c.args.store.now c.go_on.new.store c.start.new.seat.client.script.id c.requires.begun c.go_on.ensures.step

@@ -1,0 +1,127 @@
+-- What is kept of a client, from turn to turn.
+use Rattle.std.specs.Prelude.{◌≡◌, ◌⊎◌, ◌≤◌, ◌<◌, ℕ, ◌+◌, List, [], ◌∷◌, Option, Some, None, Bool, true, false, length, take, slice_get}
+use Rattle.conflict_sets.specs.Reads as bytes
+use Rattle.conflict_sets.specs.declared.sets.ReadSet.{ReadSet}
+use Rattle.fs_base.specs.Config.{Settings}
+use Rattle.fs_base.specs.declared.call.Request.{Request}
+use Rattle.fs_base.specs.declared.ids.ClientId.{ClientId}
+use Rattle.key_schema.specs.declared.key.Key.{Key}
+use Rattle.path_walk.specs.Footprint.{footprint}
+use Rattle.path_walk.specs.Owed.{MayAsk}
+use Rattle.path_walk.specs.Sound.{IsSoundEntry}
+use Rattle.row_tree.specs.TreeOf.{tree_of}
+use Rattle.row_tree.specs.TypedRows.{TypedRows}
+use Rattle.row_tree.specs.WellFormed.{IsWellFormed}
+use Rattle.txn_task.specs.Agreeing.{Agrees}
+use Rattle.txn_task.specs.declared.messages.Ask.{Ask}
+use Rattle.txn_task.specs.declared.messages.Ask.TheVariants as asks
+use Rattle.txn_task.specs.declared.messages.Entry.{Entry}
+use Rattle.meta_task.specs.Task.{TaskView}
+use Rattle.meta_task.specs.declared.waiting.Waiting.TheVariants as waits
+use Rattle.client_core.specs.Ops.{request_of}
+use Rattle.client_core.specs.Plans.{IsScript}
+use Rattle.client_core.specs.declared.plan.Op.{Op}
+use Rattle.client_core.specs.declared.plan.Script.{Script}
+use Rattle.run_record.specs.Legal.{EntryAt, journal_rows}
+use Rattle.run_record.specs.Receipts.{AreConflicts, AreReceipts, Follow, Rises}
+use Rattle.run_record.specs.Touched.{AreTouched}
+use Rattle.run_record.specs.declared.run.Listed.{Listed}
+use Rattle.world_core.specs.declared.seats.Seat.{Seat}
+use Rattle.world_core.specs.declared.seats.Work.{Work}
+
+-- ---- what is done
+
+-- the version of the last receipt
+abbrev pub version_after : ℕ → List Listed → ℕ
+version_after floor [] = floor
+version_after floor (listed ∷ rest) = version_after listed.receipt.version rest
+
+-- a receipt for each operation that has ended
+pub record IsPast (C : Settings) (attempts : ℕ) (journal : List Entry) (k : ℕ) (script : Script) (done : ℕ) (receipts : List Listed) : Type 0 where
+  pub follow : Follow k script 0 (take done script.ops) receipts
+  pub each : AreReceipts C attempts journal script.id receipts
+  pub rises : Rises 0 receipts
+  pub within : version_after 0 receipts ≤ length journal
+
+-- some receipt names the entry of this place
+abbrev pub HasReceipt : List Listed → ℕ → Type 0
+HasReceipt [] place = ⊥
+HasReceipt (listed ∷ rest) place = ((listed.receipt.committed ≡ true) × (listed.receipt.version ≡ place + 1)) ⊎ HasReceipt rest place
+
+-- each entry of the client has a receipt, or is of this request and was made since its call began
+abbrev pub AreNamedOr : List Entry → ClientId → List Listed → Request → ℕ → Type 0
+AreNamedOr journal client receipts request front =
+    (place : ℕ) (entry : Entry) → EntryAt journal place entry → entry.request.client ≡ client → HasReceipt receipts place ⊎ ((entry.request ≡ request) × (front ≤ place))
+
+abbrev pub AreNamed : List Entry → ClientId → List Listed → Type 0
+AreNamed journal client receipts = (place : ℕ) (entry : Entry) → EntryAt journal place entry → entry.request.client ≡ client → HasReceipt receipts place
+
+-- ---- the request under way
+
+-- what was read lies in the footprint, in all well-formed rows that agree with it
+abbrev pub IsCovered : Settings → Request → ReadSet → Type 0
+IsCovered C request reads = (S : TypedRows) → IsWellFormed C S → Agrees S reads → AreTouched (footprint (tree_of S) request) reads
+
+-- so it was of each entry
+abbrev pub AreCovered : Settings → List Entry → Type 0
+AreCovered C journal = (place : ℕ) (entry : Entry) → EntryAt journal place entry → IsCovered C entry.request entry.reads
+
+-- an attempt that has begun
+pub record IsBegun (C : Settings) (journal : List Entry) (client : ClientId) (floor : ℕ) (task : TaskView) : Type 0 where
+  pub from : floor ≤ task.snapshot
+  pub within : task.snapshot ≤ length journal
+  pub agrees : bytes.Agrees (journal_rows C journal task.snapshot) task.reads
+  pub covered : IsCovered C task.request task.reads
+  -- the client has made no entry since
+  pub own : (place : ℕ) (entry : Entry) → EntryAt journal place entry → entry.request.client ≡ client → place < task.snapshot
+
+-- the version of the last conflict
+abbrev pub last_version : ℕ → List (ℕ × Key) → ℕ
+last_version floor [] = floor
+last_version floor (pair ∷ pairs) = last_version pair.0 pairs
+
+pub record IsTask (C : Settings) (attempts : ℕ) (journal : List Entry) (front : ℕ) (task : TaskView) : Type 0 where
+  pub config : task.config ≡ C
+  pub attempts_are : task.attempts ≡ attempts
+  pub conflicts : AreConflicts C journal task.request front task.conflicts
+  pub last : last_version front task.conflicts ≤ length journal
+  pub begun : task.begun ≡ true → IsBegun C journal task.request.client (last_version front task.conflicts) task
+
+-- what the ask that waits for its answer owes
+abbrev pub IsPending : Settings → TaskView → Ask → Type 0
+IsPending C task asks.Begin = (task.waiting ≡ waits.Beginning) × (task.begun ≡ false)
+IsPending C task (asks.Get key) = (task.waiting ≡ waits.Reading (asks.Get key)) × (task.begun ≡ true) × MayAsk C (λ T. footprint T task.request) task.reads (asks.Get key)
+IsPending C task (asks.Range lo hi limit) = (task.waiting ≡ waits.Reading (asks.Range lo hi limit)) × (task.begun ≡ true) × MayAsk C (λ T. footprint T task.request) task.reads (asks.Range lo hi limit)
+IsPending C task (asks.Commit entry) =
+    (task.waiting ≡ waits.Committing entry.reply) × (task.begun ≡ true) × (entry.request ≡ task.request) × (entry.reads ≡ task.reads) × IsSoundEntry C entry
+IsPending C task ask = ⊥
+
+-- the request of the next operation, before its next answer
+pub record IsUnderWay (C : Settings) (attempts : ℕ) (journal : List Entry) (script : Script) (op : ℕ) (receipts : List Listed) (front : ℕ) (task : TaskView) : Type 0 where
+  pub step : Op
+  pub there : slice_get script.ops op ≡ Some step
+  pub request : task.request ≡ request_of script op step
+  pub from : version_after 0 receipts ≤ front
+  pub front_in : front ≤ length journal
+  pub named : AreNamedOr journal script.id receipts task.request front
+  pub task_is : IsTask C attempts journal front task
+
+pub record IsWork (C : Settings) (attempts : ℕ) (journal : List Entry) (script : Script) (op : ℕ) (receipts : List Listed) (work : Work) : Type 0 where
+  pub under : IsUnderWay C attempts journal script op receipts work.front work.task
+  pub pending : IsPending C work.task work.ask
+  pub server : work.server ≡ script.home
+
+-- ---- the client
+
+-- nothing is under way, or one request is
+abbrev pub IsWorking : Settings → ℕ → List Entry → Script → ℕ → List Listed → Bool → Option Work → Type 0
+IsWorking C attempts journal script op receipts false None = AreNamed journal script.id receipts
+IsWorking C attempts journal script op receipts true (Some work) = IsWork C attempts journal script op receipts work
+IsWorking C attempts journal script op receipts sent work = ⊥
+
+-- what holds of each client, after every turn of any
+pub record IsSeat (C : Settings) (attempts : ℕ) (journal : List Entry) (k : ℕ) (seat : Seat) : Type 0 where
+  pub config : seat.client.config ≡ C
+  pub script : IsScript C.servers seat.client.script
+  pub past : IsPast C attempts journal k seat.client.script seat.client.op seat.receipts
+  pub working : IsWorking C attempts journal seat.client.script seat.client.op seat.receipts seat.client.sent seat.work

@@ -1,0 +1,96 @@
+-- Clients and servers over one store.
+use Rattle.std.specs.Prelude.{◌≡◌, ◌≢◌, ◌≤◌, ℕ, List, [], ◌∷◌, ◌++◌, Bool, true, false, length, map, slice_get, Some, None}
+use Rattle.fs_base.specs.Config.{Settings}
+use Rattle.txn_task.specs.declared.messages.Entry.{Entry}
+use Rattle.client_core.specs.Client.{has_ended, new_client}
+use Rattle.client_core.specs.Plans.{AreDistinct, IsSchedule, ops_in}
+use Rattle.client_core.specs.declared.plan.Plan.{Plan}
+use Rattle.client_core.specs.declared.plan.Schedule.{Schedule}
+use Rattle.client_core.specs.declared.plan.Schedule.TheVariants.{Items}
+use Rattle.client_core.specs.declared.plan.Script.{Script}
+use Rattle.run_record.specs.Legal.{EntryAt}
+use Rattle.run_record.specs.declared.run.Listed.{Listed}
+use Rattle.world_core.specs.Kept.{AreCovered, IsSeat}
+use Rattle.world_core.specs.Objects.{Objects, entries_of}
+use Rattle.world_core.specs.Sound.{IsOpen}
+use Rattle.world_core.specs.declared.seats.Seat.{Seat}
+use Rattle.world_core.specs.declared.world.Turn.{Turn}
+use Rattle.world_core.specs.declared.world.Turn.TheVariants as turns
+
+pub record WorldView : Type 0 where
+  pub config : Settings
+  pub attempts : ℕ
+  pub objects : Objects
+  pub seats : List Seat
+  pub schedule : Schedule
+  -- whether memory was wanting
+  pub failed : Bool
+
+abbrev pub scripts_of : List Seat → List Script
+scripts_of seats = map (λ seat. seat.client.script) seats
+
+-- the plan whose run this is
+abbrev pub plan_of : WorldView → Plan
+plan_of w = record { config = w.config; attempts = w.attempts; clients = scripts_of w.seats; schedule = w.schedule }
+
+-- what holds of each client
+abbrev pub AllSeats : Settings → ℕ → List Entry → List Seat → Type 0
+AllSeats C attempts journal seats = (k : ℕ) (seat : Seat) → slice_get seats k ≡ Some seat → IsSeat C attempts journal k seat
+
+-- each entry is a client's
+abbrev pub AreOwned : List Entry → List Seat → Type 0
+AreOwned journal seats = (place : ℕ) (entry : Entry) → EntryAt journal place entry → (k : ℕ) × (seat : Seat) × (slice_get seats k ≡ Some seat) × (entry.request.client ≡ seat.client.script.id)
+
+pub record AreSeated (C : Settings) (attempts : ℕ) (journal : List Entry) (seats : List Seat) : Type 0 where
+  pub all : AllSeats C attempts journal seats
+  pub owned : AreOwned journal seats
+  pub covered : AreCovered C journal
+
+pub record IsWorld (w : WorldView) : Type 0 where
+  pub config : w.objects.store.config ≡ w.config
+  pub opened : IsOpen w.objects.store
+  pub attempts_from : 1 ≤ w.attempts
+  pub attempts_to : w.attempts ≤ 64
+  pub distinct : AreDistinct (scripts_of w.seats)
+  pub few : length w.seats ≤ 64
+  pub short : ops_in (scripts_of w.seats) ≤ 4000
+  pub schedule : IsSchedule (length w.seats) w.schedule
+  pub seated : w.failed ≡ false → AreSeated w.config w.attempts (entries_of w.objects.store.journal) w.seats
+
+-- each client's script has ended
+abbrev pub HaveEnded : List Seat → Type 0
+HaveEnded seats = (k : ℕ) (seat : Seat) → slice_get seats k ≡ Some seat → has_ended seat.client ≡ true
+
+-- all receipts, client by client
+abbrev pub receipts_in : List Seat → List Listed
+receipts_in [] = []
+receipts_in (seat ∷ seats) = seat.receipts ++ receipts_in seats
+
+-- a client that has done nothing yet
+abbrev pub new_seat : Settings → Script → Seat
+new_seat C script = record { client = new_client C script; work = None; receipts = [] }
+
+abbrev pub seats_of : Settings → List Script → List Seat
+seats_of C scripts = map (λ script. new_seat C script) scripts
+
+-- ---- turns
+
+-- whether the client has nothing under way and nothing left
+abbrev pub HasEnded : WorldView → ℕ → Bool → Type 0
+HasEnded w client ended = (seat : Seat) → slice_get w.seats client ≡ Some seat → has_ended seat.client ≡ ended
+
+-- where it has nothing left nothing changes
+abbrev pub IsTurn : WorldView → WorldView → ℕ → Turn → Type 0
+IsTurn old new client turns.Idle = HasEnded old client true × (new ≡ old)
+IsTurn old new client turns.Went = HasEnded old client false
+
+-- the client has ended another number of operations
+abbrev pub EndsOp : WorldView → WorldView → ℕ → Type 0
+EndsOp old new client = (before after : Seat) → slice_get old.seats client ≡ Some before → slice_get new.seats client ≡ Some after → after.client.op ≢ before.client.op
+
+abbrev pub IsOpTurn : WorldView → WorldView → ℕ → Turn → Type 0
+IsOpTurn old new client turns.Idle = HasEnded old client true × (new ≡ old)
+IsOpTurn old new client turns.Went = HasEnded old client false × EndsOp old new client
+
+abbrev pub items_of : Schedule → List ℕ
+items_of (Items items) = items

@@ -1,0 +1,173 @@
+//! The store's part of a turn.
+
+ghost use Rattle.std.specs.Prelude.{◌≡◌, ◌⊎◌, ◌≤◌, ℕ, length, IfOk, IfErr, OnOk};
+ghost use Rattle.conflict_sets.specs.Reads.{Agrees};
+ghost use Rattle.key_schema.specs.Keys.{IsKeyOf};
+ghost use Rattle.key_schema.specs.declared.key.Key.{Key};
+ghost use Rattle.kv_store.specs.Causes.{HasCause};
+ghost use Rattle.kv_store.specs.Journal.{first_later};
+ghost use Rattle.path_walk.specs.Sound.{IsSoundEntry};
+ghost use Rattle.run_record.specs.Legal.{journal_rows, writes_of};
+ghost use Rattle.txn_task.specs.declared.messages.Answer.TheVariants as answers;
+ghost use Rattle.txn_task.specs.declared.messages.Ask.{Ask};
+ghost use Rattle.txn_task.specs.declared.messages.Entry.{Entry};
+ghost use Rattle.world_core.specs.Answered.{HasKey};
+ghost use Rattle.world_core.specs.Objects.{entries_of, with_entry};
+ghost use Rattle.world_core.specs.Ready.{IsAnswer, IsKeyed, MayAnswer, Tells};
+ghost use Rattle.world_core.specs.Sound.{IsOpen, IsSoundJournal};
+
+use fs_base::{Memory, Text};
+use key_schema::{Key, KeyError};
+use kv_store::{CommitError, KvState, Refused};
+use meta_task::MetaEntry;
+use std::alloc::Global;
+use txn_task::{Answer, Ask, Entry};
+
+/// Tells what every store keeps that began with the root alone. It does nothing.
+pub(crate) fn sound_store(store: &KvState<MetaEntry>)
+    requires { IsOpen store.now }
+    ensures sound { IsSoundJournal store.now.config (entries_of store.now.journal) }
+    ensures few { length store.now.journal ≤ 200000 }
+{
+    store.facts();
+}
+
+fn get(
+    alloc: Global,
+    store: &KvState<MetaEntry>,
+    snapshot: u64,
+    key: &Key,
+) -> Result<Answer, Memory>
+    requires open { IsOpen store.now }
+    requires snapshot { snapshot ≤ length (entries_of store.now.journal) }
+    ensures { IfOk result (λ a. IsAnswer store.now.config (entries_of store.now.journal) (entries_of store.now.journal) snapshot (Ask.Get key.now) a) }
+{
+    let bytes = key.write(alloc)?;
+    let got = store.get_at(snapshot, bytes.as_slice())?;
+    Ok(Answer::Got(got))
+}
+
+fn range(
+    store: &KvState<MetaEntry>,
+    snapshot: u64,
+    lo: &Text,
+    hi: &Text,
+    limit: u32,
+) -> Result<Answer, Memory>
+    requires open { IsOpen store.now }
+    requires snapshot { snapshot ≤ length (entries_of store.now.journal) }
+    ensures { IfOk result (λ a. IsAnswer store.now.config (entries_of store.now.journal) (entries_of store.now.journal) snapshot (Ask.Range lo.now hi.now limit) a) }
+{
+    let rows = store.range_at(snapshot, lo.as_slice(), hi.as_slice(), limit)?;
+    Ok(Answer::Rows(rows))
+}
+
+/// Lets the entry go.
+fn cause_of(refused: Refused<MetaEntry>) -> CommitError
+    ensures { result ≡ refused.why }
+{
+    let Refused { entry: _, why } = refused;
+    why
+}
+
+/// Adds an entry, or tells why it can't be.
+fn commit(store: &mut KvState<MetaEntry>, snapshot: u64, entry: Entry) -> Result<u64, CommitError>
+    requires open { IsOpen store.old }
+    requires snapshot { snapshot ≤ length (entries_of store.old.journal) }
+    requires sound { IsSoundEntry store.old.config entry }
+    requires agreed { Agrees (journal_rows store.old.config (entries_of store.old.journal) snapshot) entry.reads }
+    ensures grown { OnOk result (store.new ≡ with_entry store.old entry) }
+    ensures same { IfErr result (λ _. store.new ≡ store.old) }
+    ensures ok { IfOk result (λ version. IsAnswer store.old.config (entries_of store.old.journal) (entries_of store.new.journal) snapshot (Ask.Commit entry) (answers.Committed version)) }
+    ensures cause { IfErr result (λ why. HasCause (first_later writes_of (entries_of store.old.journal) snapshot entry.reads) (length (entries_of store.old.journal)) why) }
+    ensures keyed { IfErr result IsKeyed }
+{
+    sound_store(store);
+    match store.commit(snapshot, MetaEntry { entry }) {
+        Ok(version) => Ok(version),
+        Err(refused) => Err(cause_of(refused)),
+    }
+}
+
+/// A conflict's key from its bytes.
+fn conflict(alloc: Global, version: u64, bytes: &Text) -> Result<Answer, Memory>
+    requires { (key : Key) × IsKeyOf bytes.now key }
+    ensures { IfOk result (λ a. (key : Key) × IsKeyOf bytes.now key × (a ≡ answers.Conflict version key)) }
+{
+    match Key::read(alloc, bytes.as_slice()) {
+        Ok(key) => Ok(Answer::Conflict(version, key)),
+        Err(KeyError::NotAKey) => unreachable!(),
+        Err(KeyError::Memory) => Err(Memory),
+    }
+}
+
+/// What the task learns of a commit that was refused.
+fn refusal(alloc: Global, why: CommitError) -> Result<Answer, Memory>
+    requires { IsKeyed why }
+    ensures tells { IfOk result (λ a. Tells why a) }
+    ensures key { IfOk result HasKey }
+{
+    match why {
+        CommitError::Conflict(version, bytes) => {
+            let answer = conflict(alloc, version, &bytes)?;
+            Ok(answer)
+        }
+        CommitError::Full => Ok(Answer::StoreFull),
+        CommitError::Memory => Err(Memory),
+    }
+}
+
+/// A commit's answer.
+fn commit_answer(
+    alloc: Global,
+    store: &mut KvState<MetaEntry>,
+    snapshot: u64,
+    entry: Entry,
+) -> Result<Answer, Memory>
+    requires open { IsOpen store.old }
+    requires snapshot { snapshot ≤ length (entries_of store.old.journal) }
+    requires sound { IsSoundEntry store.old.config entry }
+    requires agreed { Agrees (journal_rows store.old.config (entries_of store.old.journal) snapshot) entry.reads }
+    ensures answer { IfOk result (λ a. IsAnswer store.old.config (entries_of store.old.journal) (entries_of store.new.journal) snapshot (Ask.Commit entry) a) }
+    ensures key { IfOk result HasKey }
+    ensures grows { (store.new ≡ store.old) ⊎ (store.new ≡ with_entry store.old entry) }
+{
+    match commit(store, snapshot, entry) {
+        Ok(version) => Ok(Answer::Committed(version)),
+        Err(why) => {
+            let answer = refusal(alloc, why)?;
+            Ok(answer)
+        }
+    }
+}
+
+/// One ask, answered by the store at the snapshot.
+pub(crate) fn answer(
+    alloc: Global,
+    store: &mut KvState<MetaEntry>,
+    snapshot: u64,
+    ask: Ask,
+) -> Result<Answer, Memory>
+    requires open { IsOpen store.old }
+    requires may { MayAnswer store.old.config (entries_of store.old.journal) snapshot ask }
+    ensures answer { IfOk result (λ a. IsAnswer store.old.config (entries_of store.old.journal) (entries_of store.new.journal) snapshot ask a) }
+    ensures key { IfOk result HasKey }
+    ensures grows { (store.new ≡ store.old) ⊎ ((entry : Entry) × (ask ≡ Ask.Commit entry) × (store.new ≡ with_entry store.old entry)) }
+{
+    match ask {
+        Ask::Begin => Ok(Answer::Begun(store.front())),
+        Ask::Get(key) => {
+            let answer = get(alloc, store, snapshot, &key)?;
+            Ok(answer)
+        }
+        Ask::Range { lo, hi, limit } => {
+            let answer = range(store, snapshot, &lo, &hi, limit)?;
+            Ok(answer)
+        }
+        Ask::Commit(entry) => {
+            let answer = commit_answer(alloc, store, snapshot, entry)?;
+            Ok(answer)
+        }
+        _ => unreachable!(),
+    }
+}

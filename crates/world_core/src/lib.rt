@@ -1,0 +1,10 @@
+//! Clients and servers in listed turns: each turn is one ask of one client, answered by one object.
+#![tactic(auto)]
+
+mod answers;
+mod record;
+mod seats;
+mod turns;
+mod world;
+
+pub use world::{Turn, World};

@@ -1,0 +1,92 @@
+//! From a world to its record.
+
+ghost use Rattle.std.specs.Prelude.{◌≡◌, ◌<◌, ◌++◌, ◌^◌, map, IfOk, OnOk};
+ghost use Rattle.run_record.specs.Right.{conflicts_in, summary_of as counts_of};
+ghost use Rattle.world_core.specs.Objects.{entries_of};
+ghost use Rattle.world_core.specs.World.{receipts_in, scripts_of};
+
+use crate::seats::Seat;
+use fs_base::{ClientId, Config, Items, Memory};
+use kv_store::KvState;
+use meta_task::MetaEntry;
+use run_record::{Listed, Record, summary_of};
+use std::alloc::Global;
+use txn_task::Entry;
+
+fn ids(alloc: Global, seats: &[Seat]) -> Result<Items<ClientId>, Memory>
+    ensures { IfOk result (λ ids. ids ≡ map (λ script. script.id) (scripts_of seats.now)) }
+{
+    let mut ids = Items::new(alloc);
+    for seat in seats {
+        ids.push(seat.client.id())?;
+    }
+    Ok(ids)
+}
+
+fn append(all: &mut Items<Listed>, receipts: Items<Listed>) -> Result<(), Memory>
+    ensures { OnOk result (all.new ≡ all.old ++ receipts) }
+{
+    for listed in receipts.into_vec() {
+        all.push(listed)?;
+    }
+    Ok(())
+}
+
+fn receipts_of(seat: Seat) -> Items<Listed>
+    ensures { result ≡ seat.receipts }
+{
+    let Seat {
+        client: _,
+        work: _,
+        receipts,
+    } = seat;
+    receipts
+}
+
+fn receipts(alloc: Global, seats: Vec<Seat>) -> Result<Items<Listed>, Memory>
+    ensures { IfOk result (λ receipts. receipts ≡ receipts_in seats.items) }
+{
+    let mut all = Items::new(alloc);
+    for seat in seats {
+        append(&mut all, receipts_of(seat))?;
+    }
+    Ok(all)
+}
+
+fn entries(alloc: Global, journal: Items<MetaEntry>) -> Result<Items<Entry>, Memory>
+    ensures { IfOk result (λ entries. entries ≡ entries_of journal) }
+{
+    let mut entries = Items::new(alloc);
+    for whole in journal.into_vec() {
+        entries.push(whole.entry)?;
+    }
+    Ok(entries)
+}
+
+/// What is kept of a run.
+pub(crate) fn record_of(
+    alloc: Global,
+    config: Config,
+    store: KvState<MetaEntry>,
+    seats: Vec<Seat>,
+) -> Result<Record, Memory>
+    requires { conflicts_in (receipts_in seats.items) < 2 ^ 64 }
+    ensures config { IfOk result (λ run. run.config ≡ config) }
+    ensures clients { IfOk result (λ run. run.clients ≡ map (λ script. script.id) (scripts_of seats.items)) }
+    ensures receipts { IfOk result (λ run. run.receipts ≡ receipts_in seats.items) }
+    ensures entries { IfOk result (λ run. run.entries ≡ entries_of store.journal) }
+    ensures summary { IfOk result (λ run. run.summary ≡ counts_of run.receipts run.entries) }
+{
+    let clients = ids(alloc, seats.as_slice())?;
+    let receipts = receipts(alloc, seats)?;
+    let (_opening, journal) = store.into_parts();
+    let entries = entries(alloc, journal)?;
+    let summary = summary_of(receipts.as_slice(), entries.as_slice());
+    Ok(Record {
+        config,
+        clients,
+        receipts,
+        entries,
+        summary,
+    })
+}

@@ -1,0 +1,368 @@
+//! The clients' part of a turn.
+
+ghost use Rattle.std.specs.Prelude.{◌≡◌, ◌⊎◌, ◌≤◌, ◌<◌, ◌+◌, ◌++◌, ◌∷◌, ◌^◌, [], ℕ, List, Some, None, true, false, length, slice_get, replicate, IfOk, OnOk};
+ghost use Rattle.client_core.specs.Client.{end_call, send, IsSending};
+ghost use Rattle.client_core.specs.declared.messages.ClientAsk.TheVariants as client_asks;
+ghost use Rattle.client_core.specs.declared.plan.Op.{Op};
+ghost use Rattle.meta_task.specs.Task.{new_task, Fits};
+ghost use Rattle.txn_task.specs.declared.messages.Answer.{Answer as AnswerView};
+ghost use Rattle.txn_task.specs.declared.messages.Entry.{Entry};
+ghost use Rattle.meta_task.specs.declared.waiting.Waiting.TheVariants as waits;
+ghost use Rattle.path_walk.specs.Requests.{IsRequest};
+ghost use Rattle.run_record.specs.Receipts.{fronts_of};
+ghost use Rattle.txn_task.specs.declared.messages.Ask.TheVariants as asks;
+ghost use Rattle.txn_task.specs.declared.outcome.Outcome.{Outcome};
+ghost use Rattle.txn_task.specs.declared.outcome.Receipt.{Receipt};
+ghost use Rattle.client_core.specs.Plans.{AreDistinct, IsScript};
+ghost use Rattle.world_core.specs.Kept.{AreCovered, IsPast, IsSeat, IsWork};
+ghost use Rattle.world_core.specs.World.{AreSeated, scripts_of};
+ghost use Rattle.world_core.specs.declared.seats.Seat.{Seat as SeatView};
+ghost use Rattle.world_core.specs.Objects.{IsGrowth, entries_of, with_entry};
+ghost use Rattle.world_core.specs.Answered.{IsExchange};
+ghost use Rattle.world_core.specs.Ready.{IsAnswer, IsReady, MayAnswer, is_done};
+ghost use Rattle.world_core.specs.Sound.{IsOpen};
+
+use crate::answers::{answer, sound_store};
+use crate::seats::{Seat, Work};
+use client_core::{ClientAnswer, ClientAsk, ClientState};
+use fs_base::{Config, Items, Memory, Request};
+use kv_store::KvState;
+use meta_task::{MetaEntry, MetaTask};
+use run_record::Listed;
+use std::alloc::Global;
+use txn_task::{Answer, Ask, Outcome, Receipt};
+
+fn let_go(_task: MetaTask) {}
+
+fn set_work(seat: &mut Seat, work: Work)
+    ensures { seat.new ≡ record seat.old { work = Some work } }
+{
+    seat.work = Some(work);
+}
+
+fn take_work(seat: &mut Seat) -> Option<Work>
+    ensures work { result ≡ seat.old.work }
+    ensures seat { seat.new ≡ record seat.old { work = None } }
+{
+    seat.work.take()
+}
+
+// ---- a call begins
+
+/// The client's next step, where nothing is under way.
+fn next_step(seat: &mut Seat) -> Result<ClientAsk, Memory>
+    requires { seat.old.client.sent ≡ false }
+    ensures seat { OnOk result (seat.new ≡ record seat.old { client = (send seat.old.client (slice_get seat.old.client.script.ops seat.old.client.op)).0 }) }
+    ensures ask { IfOk result (λ ask. ask ≡ (send seat.old.client (slice_get seat.old.client.script.ops seat.old.client.op)).1) }
+    ensures valid { IfOk result (λ ask. IsSending seat.old.client.config ask) }
+    ensures script { seat.new.client.script ≡ seat.old.client.script }
+{
+    let answer = if seat.receipts.is_empty() {
+        ClientAnswer::Start
+    } else {
+        ClientAnswer::Next
+    };
+    let ask = seat.client.next(answer)?;
+    Ok(ask)
+}
+
+/// A request's task, which waits for the answer to its first ask.
+fn new_work(
+    alloc: Global,
+    store: &KvState<MetaEntry>,
+    config: Config,
+    attempts: u8,
+    server: u8,
+    request: Request,
+) -> Result<Work, Memory>
+    requires valid { IsRequest config request }
+    requires from { 1 ≤ attempts }
+    requires to { attempts ≤ 64 }
+    ensures task { IfOk result (λ work. work.task ≡ record (new_task config attempts request) { waiting = waits.Beginning }) }
+    ensures ask { IfOk result (λ work. work.ask ≡ asks.Begin) }
+    ensures server { IfOk result (λ work. work.server ≡ server) }
+    ensures front { IfOk result (λ work. work.front ≡ length store.now.journal) }
+{
+    let mut task = MetaTask::new(alloc, request, config, attempts)?;
+    let ask = task.next(Answer::Start)?;
+    Ok(Work {
+        task,
+        ask,
+        server,
+        front: store.front(),
+    })
+}
+
+/// Sends the client's next request, where none is under way and one is left.
+pub(crate) fn start(
+    alloc: Global,
+    store: &KvState<MetaEntry>,
+    config: Config,
+    attempts: u8,
+    k: u16,
+    seat: &mut Seat,
+) -> Result<(), Memory>
+    requires config { store.now.config ≡ config }
+    requires from { 1 ≤ attempts }
+    requires to { attempts ≤ 64 }
+    requires seat { IsSeat config attempts (entries_of store.now.journal) k seat.old }
+    ensures seat { OnOk result (IsSeat config attempts (entries_of store.now.journal) k seat.new) }
+    ensures script { seat.new.client.script ≡ seat.old.client.script }
+{
+    if seat.work.is_some() {
+        return Ok(());
+    }
+    match next_step(seat)? {
+        ClientAsk::Send { server, request } => {
+            let work = new_work(alloc, store, config, attempts, server, request)?;
+            set_work(seat, work);
+            Ok(())
+        }
+        ClientAsk::Ended => Ok(()),
+        ClientAsk::CallEnd { .. } => unreachable!(),
+    }
+}
+
+// ---- a call ends
+
+/// What a task that is done came to.
+fn outcome_of(alloc: Global, task: &MetaTask) -> Result<Outcome, Memory>
+    requires { (outcome : Outcome) × (task.now.outcome ≡ Some outcome) }
+    ensures { IfOk result (λ outcome. task.now.outcome ≡ Some outcome) }
+{
+    match task.outcome() {
+        Some(outcome) => {
+            let copy = outcome.try_clone(alloc)?;
+            Ok(copy)
+        }
+        None => unreachable!(),
+    }
+}
+
+fn only(receipts: Items<Receipt>) -> Receipt
+    requires { (receipt : Receipt) × (receipts ≡ receipt ∷ []) }
+    ensures { receipts ≡ result ∷ [] }
+{
+    let mut receipts = receipts.into_vec();
+    match receipts.pop() {
+        Some(receipt) => receipt,
+        None => unreachable!(),
+    }
+}
+
+/// The client learns what its call came to, and keeps a receipt.
+fn learn(client: &mut ClientState, server: u8, outcome: Outcome) -> Result<Receipt, Memory>
+    requires sent { client.old.sent ≡ true }
+    requires there { (step : Op) × (slice_get client.old.script.ops client.old.op ≡ Some step) }
+    ensures client { OnOk result (client.new ≡ (end_call client.old server outcome (slice_get client.old.script.ops client.old.op)).0) }
+    ensures receipt { IfOk result (λ receipt. client_asks.CallEnd (receipt ∷ []) true ≡ (end_call client.old server outcome (slice_get client.old.script.ops client.old.op)).1) }
+    ensures script { client.new.script ≡ client.old.script }
+{
+    match client.next(ClientAnswer::Replied(server, outcome))? {
+        ClientAsk::CallEnd { receipts, .. } => Ok(only(receipts)),
+        _ => unreachable!(),
+    }
+}
+
+/// The journal's front, and none of what the storage nodes do.
+fn fronts(alloc: Global, config: &Config, front: u64) -> Result<Items<u64>, Memory>
+    ensures { IfOk result (λ fronts. fronts ≡ fronts_of config.now front) }
+{
+    let mut fronts = Items::new(alloc);
+    fronts.push(front)?;
+    for _node in 0..config.nodes() {
+        fronts.push(0)?;
+    }
+    Ok(fronts)
+}
+
+/// Ends the call with its outcome. The store is there for contracts alone.
+fn finish(
+    alloc: Global,
+    _store: &KvState<MetaEntry>,
+    config: Config,
+    _attempts: u8,
+    k: u16,
+    seat: &mut Seat,
+    server: u8,
+    front: u64,
+    task: MetaTask,
+) -> Result<(), Memory>
+    requires config { seat.old.client.config ≡ config }
+    requires valid { IsScript config.servers seat.old.client.script }
+    requires idle { seat.old.work ≡ None }
+    requires sent { seat.old.client.sent ≡ true }
+    requires past { IsPast config _attempts (entries_of _store.now.journal) k seat.old.client.script seat.old.client.op seat.old.receipts }
+    requires server { server ≡ seat.old.client.script.home }
+    requires ready { IsReady config _attempts (entries_of _store.now.journal) k seat.old.client.script seat.old.client.op seat.old.receipts front task asks.Done }
+    ensures seat { OnOk result (IsSeat config _attempts (entries_of _store.now.journal) k seat.new) }
+    ensures script { seat.new.client.script ≡ seat.old.client.script }
+{
+    let outcome = outcome_of(alloc, &task)?;
+    let_go(task);
+    let receipt = learn(&mut seat.client, server, outcome)?;
+    let fronts = fronts(alloc, &config, front)?;
+    seat.receipts.push(Listed {
+        client: k,
+        fronts,
+        receipt,
+    })
+}
+
+fn is_done(ask: &Ask) -> bool
+    ensures { result ≡ is_done ask.now }
+{
+    matches!(ask, Ask::Done)
+}
+
+/// Gives a client its receipt, or what goes on. The store is there for contracts alone.
+fn settle(
+    alloc: Global,
+    store: &KvState<MetaEntry>,
+    config: Config,
+    attempts: u8,
+    k: u16,
+    seat: &mut Seat,
+    work: Work,
+) -> Result<(), Memory>
+    requires config { seat.old.client.config ≡ config }
+    requires valid { IsScript config.servers seat.old.client.script }
+    requires idle { seat.old.work ≡ None }
+    requires sent { seat.old.client.sent ≡ true }
+    requires past { IsPast config attempts (entries_of store.now.journal) k seat.old.client.script seat.old.client.op seat.old.receipts }
+    requires server { work.server ≡ seat.old.client.script.home }
+    requires ready { IsReady config attempts (entries_of store.now.journal) k seat.old.client.script seat.old.client.op seat.old.receipts work.front work.task work.ask }
+    ensures seat { OnOk result (IsSeat config attempts (entries_of store.now.journal) k seat.new) }
+    ensures script { seat.new.client.script ≡ seat.old.client.script }
+{
+    if !is_done(&work.ask) {
+        set_work(seat, work);
+        return Ok(());
+    }
+    let Work {
+        task,
+        ask: _,
+        server,
+        front,
+    } = work;
+    finish(alloc, store, config, attempts, k, seat, server, front, task)
+}
+
+/// The ask that waits is answered by the store, and the task asks on.
+fn exchange(
+    alloc: Global,
+    store: &mut KvState<MetaEntry>,
+    task: &mut MetaTask,
+    ask: Ask,
+) -> Result<Ask, Memory>
+    requires begun { IsOpen store.old }
+    requires may { MayAnswer store.old.config (entries_of store.old.journal) task.old.snapshot ask }
+    requires fits { (new : List Entry) (answer : AnswerView) → IsAnswer store.old.config (entries_of store.old.journal) new task.old.snapshot ask answer → Fits task.old.waiting answer }
+    ensures exchanged { IfOk result (λ next. IsExchange store.old.config (entries_of store.old.journal) (entries_of store.new.journal) task.old ask task.new next) }
+    ensures grows { (store.new ≡ store.old) ⊎ ((entry : Entry) × (ask ≡ asks.Commit entry) × (store.new ≡ with_entry store.old entry)) }
+{
+    let answer = answer(alloc, store, task.snapshot(), ask)?;
+    let next = task.next(answer)?;
+    Ok(next)
+}
+
+/// One ask of a request. The client is there for contracts alone.
+fn advance(
+    alloc: Global,
+    store: &mut KvState<MetaEntry>,
+    _attempts: u8,
+    _k: u16,
+    _client: &ClientState,
+    _receipts: &Items<Listed>,
+    work: Work,
+) -> Result<Work, Memory>
+    requires begun { IsOpen store.old }
+    requires script { IsScript store.old.config.servers _client.now.script }
+    requires past { IsPast store.old.config _attempts (entries_of store.old.journal) _k _client.now.script _client.now.op _receipts.now }
+    requires working { IsWork store.old.config _attempts (entries_of store.old.journal) _client.now.script _client.now.op _receipts.now work }
+    requires covered { AreCovered store.old.config (entries_of store.old.journal) }
+    ensures ready { IfOk result (λ new. IsReady store.old.config _attempts (entries_of store.new.journal) _k _client.now.script _client.now.op _receipts.now new.front new.task new.ask) }
+    ensures server { IfOk result (λ new. new.server ≡ work.server) }
+    ensures past { OnOk result (IsPast store.old.config _attempts (entries_of store.new.journal) _k _client.now.script _client.now.op _receipts.now) }
+    ensures covered { OnOk result (AreCovered store.old.config (entries_of store.new.journal)) }
+    ensures step { IsGrowth store.old store.new _client.now.script.id }
+{
+    sound_store(store);
+    let Work {
+        mut task,
+        ask,
+        server,
+        front,
+    } = work;
+    let ask = exchange(alloc, store, &mut task, ask)?;
+    sound_store(store);
+    Ok(Work {
+        task,
+        ask,
+        server,
+        front,
+    })
+}
+
+/// One ask of the client's request, where one is under way.
+pub(crate) fn go_on(
+    alloc: Global,
+    store: &mut KvState<MetaEntry>,
+    config: Config,
+    attempts: u8,
+    k: u16,
+    seat: &mut Seat,
+) -> Result<(), Memory>
+    requires config { store.old.config ≡ config }
+    requires begun { IsOpen store.old }
+    requires seat { IsSeat config attempts (entries_of store.old.journal) k seat.old }
+    requires covered { AreCovered config (entries_of store.old.journal) }
+    ensures seat { OnOk result (IsSeat config attempts (entries_of store.new.journal) k seat.new) }
+    ensures step { IsGrowth store.old store.new seat.old.client.script.id }
+    ensures covered { OnOk result (AreCovered config (entries_of store.new.journal)) }
+    ensures script { seat.new.client.script ≡ seat.old.client.script }
+{
+    let Some(work) = take_work(seat) else {
+        return Ok(());
+    };
+    let work = advance(
+        alloc,
+        store,
+        attempts,
+        k,
+        &seat.client,
+        &seat.receipts,
+        work,
+    )?;
+    settle(alloc, store, config, attempts, k, seat, work)
+}
+
+/// One turn of a client: at most one ask.
+pub(crate) fn event(
+    alloc: Global,
+    store: &mut KvState<MetaEntry>,
+    config: Config,
+    attempts: u8,
+    seats: &mut Vec<Seat>,
+    k: u16,
+) -> Result<(), Memory>
+    requires config { store.old.config ≡ config }
+    requires begun { IsOpen store.old }
+    requires from { 1 ≤ attempts }
+    requires to { attempts ≤ 64 }
+    requires distinct { AreDistinct (scripts_of seats.old.items) }
+    requires within { k < length seats.old.items }
+    requires seated { AreSeated config attempts (entries_of store.old.journal) seats.old.items }
+    ensures seated { OnOk result (AreSeated config attempts (entries_of store.new.journal) seats.new.items) }
+    ensures scripts { scripts_of seats.new.items ≡ scripts_of seats.old.items }
+    ensures config { store.new.config ≡ store.old.config }
+    ensures begun { IsOpen store.new }
+    ensures step { (seat : SeatView) → slice_get seats.old.items k ≡ Some seat → IsGrowth store.old store.new seat.client.script.id }
+{
+    sound_store(store);
+    let seat = &mut seats[usize::from(k)];
+    start(alloc, store, config, attempts, k, seat)?;
+    go_on(alloc, store, config, attempts, k, seat)?;
+    sound_store(store);
+    Ok(())
+}

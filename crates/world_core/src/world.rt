@@ -1,0 +1,272 @@
+ghost use Rattle.std.specs.Prelude.{◌≡◌, ◌⊎◌, ◌≤◌, ◌<◌, ◌+◌, ℕ, [], Some, true, false, length, slice_get, All, IfOk, OnOk};
+ghost use Rattle.client_core.specs.Client.{has_ended};
+ghost use Rattle.client_core.specs.Plans.{IsPlan, IsSchedule, IsScript, NamesClient};
+ghost use Rattle.run_record.specs.Right.{IsRight};
+ghost use Rattle.world_core.specs.Objects.{IsStep};
+ghost use Rattle.world_core.specs.Sound.{IsOpen};
+ghost use Rattle.world_core.specs.World.{EndsOp, HaveEnded, IsOpTurn, IsTurn, items_of, new_seat, plan_of, seats_of};
+ghost use Rattle.world_core.specs.declared.seats.Seat.{Seat as SeatView};
+
+use crate::answers::sound_store;
+use crate::record::record_of;
+use crate::seats::Seat;
+use crate::turns::event;
+use client_core::{ClientState, Plan, Schedule, Script};
+use fs_base::{Config, Items, Memory};
+use kv_store::KvState;
+use meta_task::MetaEntry;
+use row_tree::opening_rows;
+use run_record::Record;
+use std::alloc::Global;
+use std::marker::Model;
+
+/// What a turn did.
+#[derive(Clone, Copy, Debug, PartialEq, Eq)]
+pub enum Turn {
+    Went,
+    /// The client had nothing left to do.
+    Idle,
+}
+
+/// The clients of a plan over one store, turn by turn.
+///
+/// A world that wanted memory answers that from then on.
+#[derive(Drop)]
+pub struct World {
+    alloc: Global,
+    config: Config,
+    attempts: u8,
+    store: KvState<MetaEntry>,
+    seats: Vec<Seat>,
+    schedule: Schedule,
+    failed: bool,
+}
+
+impl Model for World {
+    ghost use Rattle.world_core.specs.Objects.{no_histories};
+    ghost use Rattle.world_core.specs.World.{WorldView, IsWorld};
+
+    ghost Value = { WorldView };
+
+    ghost view = { λ w. record { config = w.config; attempts = w.attempts; objects = record { store = w.store; nodes = no_histories w.config.nodes }; seats = w.seats.items; schedule = w.schedule; failed = w.failed } };
+
+    ghost invariant = { λ w. IsWorld (record { config = w.config; attempts = w.attempts; objects = record { store = w.store; nodes = no_histories w.config.nodes }; seats = w.seats.items; schedule = w.schedule; failed = w.failed }) };
+}
+
+/// A store with the root directory alone.
+fn new_store(alloc: Global, config: &Config) -> Result<KvState<MetaEntry>, Memory>
+    ensures config { IfOk result (λ store. store.config ≡ config.now) }
+    ensures none { IfOk result (λ store. store.journal ≡ []) }
+    ensures begun { IfOk result (λ store. IsOpen store) }
+{
+    let rows = opening_rows(alloc, config)?;
+    KvState::new(alloc, config, rows)
+}
+
+/// A client that has done nothing yet.
+fn new_seat(alloc: Global, config: Config, script: Script) -> Result<Seat, Memory>
+    requires { IsScript config.servers script }
+    ensures { IfOk result (λ seat. seat ≡ new_seat config script) }
+{
+    let client = ClientState::new(alloc, script, config)?;
+    Ok(Seat {
+        client,
+        work: None,
+        receipts: Items::new(alloc),
+    })
+}
+
+fn new_seats(alloc: Global, config: Config, scripts: Items<Script>) -> Result<Vec<Seat>, Memory>
+    requires { All (IsScript config.servers) scripts }
+    ensures { IfOk result (λ seats. seats.items ≡ seats_of config scripts) }
+{
+    let mut seats = Vec::new(alloc);
+    for script in scripts.into_vec() {
+        let seat = new_seat(alloc, config, script)?;
+        seats.push(seat)?;
+    }
+    Ok(seats)
+}
+
+fn items_in(schedule: &Schedule) -> usize
+    ensures { result ≡ length (items_of schedule.now) }
+{
+    match schedule {
+        Schedule::Items(items) => items.len(),
+    }
+}
+
+fn item_at(schedule: &Schedule, place: usize) -> u16
+    requires { place < length (items_of schedule.now) }
+    ensures { (count : ℕ) → IsSchedule count schedule.now → NamesClient count result }
+{
+    match schedule {
+        Schedule::Items(items) => items.as_slice()[place],
+    }
+}
+
+impl World {
+    /// A world in which nothing has happened yet.
+    pub fn new(alloc: Global, plan: Plan) -> Result<World, Memory>
+        requires { IsPlan plan }
+        ensures plan { IfOk result (λ world. plan_of world ≡ plan) }
+        ensures none { IfOk result (λ world. world.objects.store.journal ≡ []) }
+        ensures alive { IfOk result (λ world. world.failed ≡ false) }
+    {
+        let Plan {
+            config,
+            attempts,
+            clients,
+            schedule,
+        } = plan;
+        let store = new_store(alloc, &config)?;
+        let seats = new_seats(alloc, config, clients)?;
+        Ok(World {
+            alloc,
+            config,
+            attempts,
+            store,
+            seats,
+            schedule,
+            failed: false,
+        })
+    }
+
+    /// One turn of a client: at most one ask, answered by one object. `Idle` exactly where the client has nothing left.
+    ///
+    /// Where no request of the client is under way, it sends its next one first; where the answer ends the request,
+    /// the client learns it in the same turn.
+    pub fn turn(&mut self, client: u16) -> Result<Turn, Memory>
+        requires { client < length self.old.seats }
+        ensures turn { IfOk result (λ turn. IsTurn self.old self.new client turn) }
+        ensures step { (seat : SeatView) → slice_get self.old.seats client ≡ Some seat → IsStep self.old.objects self.new.objects seat.client.script.id }
+        ensures plan { plan_of self.new ≡ plan_of self.old }
+        ensures before { OnOk result (self.old.failed ≡ false) }
+        ensures alive { OnOk result (self.new.failed ≡ false) }
+    {
+        if self.failed {
+            return Err(Memory);
+        }
+        if self.seats[usize::from(client)].client.has_ended() {
+            return Ok(Turn::Idle);
+        }
+        self.failed = true;
+        event(
+            self.alloc,
+            &mut self.store,
+            self.config,
+            self.attempts,
+            &mut self.seats,
+            client,
+        )?;
+        self.failed = false;
+        Ok(Turn::Went)
+    }
+
+    /// Turns of a client until the operation under way, or else its next one, has ended. `Idle` exactly where it has nothing left.
+    pub fn op(&mut self, client: u16) -> Result<Turn, Memory>
+        requires { client < length self.old.seats }
+        ensures turn { IfOk result (λ turn. IsOpTurn self.old self.new client turn) }
+        ensures plan { plan_of self.new ≡ plan_of self.old }
+        ensures before { OnOk result (self.old.failed ≡ false) }
+    {
+        if self.failed {
+            return Err(Memory);
+        }
+        if self.seats[usize::from(client)].client.has_ended() {
+            return Ok(Turn::Idle);
+        }
+        self.end_op(client)?;
+        Ok(Turn::Went)
+    }
+
+    fn end_op(&mut self, client: u16) -> Result<(), Memory>
+        requires { client < length self.old.seats }
+        ensures ended { OnOk result (EndsOp self.old self.new client) }
+        ensures plan { plan_of self.new ≡ plan_of self.old }
+    {
+        let before = self.seats[usize::from(client)].client.ended_ops();
+        // An operation ends after far fewer turns than this; its contract doesn't count them.
+        for _ in 0..u64::MAX {
+            self.turn(client)?;
+            if self.seats[usize::from(client)].client.ended_ops() != before {
+                return Ok(());
+            }
+        }
+        Err(Memory)
+    }
+
+    /// One item of a schedule: a turn, or a whole operation.
+    fn take_item(&mut self, item: u16) -> Result<(), Memory>
+        requires { NamesClient (length self.old.seats) item }
+        ensures plan { plan_of self.new ≡ plan_of self.old }
+    {
+        if item < 100 {
+            self.turn(item)?;
+        } else {
+            self.op(item - 100)?;
+        }
+        Ok(())
+    }
+
+    fn take_schedule(&mut self) -> Result<(), Memory>
+        ensures plan { plan_of self.new ≡ plan_of self.old }
+    {
+        for place in 0..items_in(&self.schedule) {
+            let item = item_at(&self.schedule, place);
+            self.take_item(item)?;
+        }
+        Ok(())
+    }
+
+    /// A whole operation of each client that has one left.
+    fn round(&mut self) -> Result<(), Memory>
+        ensures plan { plan_of self.new ≡ plan_of self.old }
+    {
+        for client in 0..self.seats.len() {
+            self.op(client as u16)?;
+        }
+        Ok(())
+    }
+
+    fn has_left(&self) -> bool
+        ensures { result ≡ false → HaveEnded self.now.seats }
+    {
+        self.seats.iter().any(|seat| !seat.client.has_ended())
+    }
+
+    /// The plan's schedule, and then rounds until no client has anything left: in each, every client that has does one whole operation.
+    pub fn run(mut self) -> Result<Record, Memory>
+        ensures { IfOk result (λ run. IsRight (plan_of self) run) }
+    {
+        self.take_schedule()?;
+        // A script has at most 4,000 operations.
+        for _ in 0..4000u16 {
+            if !self.has_left() {
+                break;
+            }
+            self.round()?;
+        }
+        self.into_record()
+    }
+
+    /// What is kept of a run that has ended.
+    fn into_record(self) -> Result<Record, Memory>
+        ensures { IfOk result (λ run. IsRight (plan_of self) run) }
+    {
+        if self.failed || self.has_left() {
+            return Err(Memory);
+        }
+        let World {
+            alloc,
+            config,
+            attempts: _,
+            store,
+            seats,
+            schedule: _,
+            failed: _,
+        } = self;
+        sound_store(&store);
+        record_of(alloc, config, store, seats)
+    }
+}
