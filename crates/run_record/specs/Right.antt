@@ -1,9 +1,12 @@
 -- What the record of a plan's run owes.
-use Rattle.std.specs.Prelude.{◌≡◌, ℕ, ◌+◌, ◌<◌, ◌==◌, ◌&&◌, List, [], ◌∷◌, ◌++◌, length, map, count_by, Bool}
+use Rattle.std.specs.Prelude.{◌≡◌, ℕ, ◌+◌, ◌<◌, ◌==◌, ◌&&◌, List, [], ◌∷◌, ◌++◌, length, map, count_by, Bool, false}
 use Rattle.conflict_sets.specs.Reads.{Agrees}
 use Rattle.fs_base.specs.Config.{Settings}
+use Rattle.fs_base.specs.declared.reply.Reply.{Reply}
+use Rattle.fs_base.specs.declared.reply.Reply.TheVariants.{Refused}
 use Rattle.path_walk.specs.Footprint.{footprint}
 use Rattle.row_tree.specs.HasTree.{HasTree}
+use Rattle.tree_model.specs.Calls.{is_query}
 use Rattle.txn_task.specs.declared.messages.Entry.{Entry}
 use Rattle.client_core.specs.declared.plan.Plan.{Plan}
 use Rattle.client_core.specs.declared.plan.Script.{Script}
@@ -14,11 +17,17 @@ use Rattle.run_record.specs.declared.run.Listed.{Listed}
 use Rattle.run_record.specs.declared.run.Record.{Record}
 use Rattle.run_record.specs.declared.run.Summary.{Summary}
 
--- an entry read what stood before it, within its call's footprint, and asked no storage node
+abbrev pub IsNoRefusal : Reply → Type 0
+IsNoRefusal (Refused code) = ⊥
+IsNoRefusal reply = Unit {0}
+
+-- an entry is a change that was done; it read what stood before it, within its call's footprint, and asked no storage node
 pub record IsRightEntry (C : Settings) (journal : List Entry) (place : ℕ) (entry : Entry) : Type 0 where
   pub agrees : Agrees (journal_rows C journal place) entry.reads
   pub touched : AreTouched (footprint (tree_at C journal place) entry.request) entry.reads
   pub none_asked : entry.asked ≡ []
+  pub update : is_query entry.request.call ≡ false
+  pub accepted : IsNoRefusal entry.reply
 
 -- the receipts are the clients', one client after another
 abbrev pub AreSections : Settings → ℕ → List Entry → ℕ → List Script → List Listed → Type 0

@@ -29,7 +29,8 @@ use Rattle.world_core.specs.Kept.{AreNamed, AreNamedOr, HasReceipt, IsBegun, IsP
 use Rattle.world_core.specs.Sound.{IsSoundJournal}
 use Rattle.world_core.proofs.Conflicts.{rows_ascending}
 use Rattle.world_core.proofs.History.{entry_sound, kept_above, kept_by, rows_tree}
-use Rattle.world_core.proofs.Replies.{IsNoRefusal, made_reply}
+use Rattle.run_record.specs.Right.{IsNoRefusal}
+use Rattle.world_core.proofs.Replies.{made_reply}
 
 -- ---- one receipt more
 

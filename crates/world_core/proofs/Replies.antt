@@ -15,7 +15,7 @@ use Rattle.fs_base.specs.declared.kind.Kind.TheVariants as kinds
 use Rattle.fs_base.specs.declared.layout.DefaultLayout.{DefaultLayout}
 use Rattle.fs_base.specs.declared.path.Path.{Path}
 use Rattle.fs_base.specs.declared.reply.Reply.{Reply}
-use Rattle.fs_base.specs.declared.reply.Reply.TheVariants.{Attr, Made, Refused, Done}
+use Rattle.fs_base.specs.declared.reply.Reply.TheVariants.{Attr, Made, Done}
 use Rattle.tree_model.specs.declared.new_node.NewNode.{NewNode}
 use Rattle.tree_model.specs.declared.node.Node.{Node}
 use Rattle.tree_model.specs.declared.node.NodePart.{NodePart}
@@ -30,10 +30,7 @@ use Rattle.tree_model.specs.Effects.{Effect, Leaves, Makes, refuses, on_path}
 use Rattle.tree_model.specs.Finding.{found_of, stat_at, list_at, readlink_at, target_of, if_there, setattr_at}
 use Rattle.tree_model.specs.Tree.{Tree, next_at, node_with}
 use Rattle.tree_model.specs.Walk.{resolve}
-
-abbrev pub IsNoRefusal : Reply → Type 0
-IsNoRefusal (Refused code) = ⊥
-IsNoRefusal reply = Unit {0}
+use Rattle.run_record.specs.Right.{IsNoRefusal}
 
 abbrev RepliesWell : Effect → Type 0
 RepliesWell (Leaves reply) = Unit {0}

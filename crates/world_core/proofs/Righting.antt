@@ -9,6 +9,8 @@ use Rattle.fs_base.specs.Config.{Settings}
 use Rattle.fs_base.specs.declared.ids.ClientId.{ClientId}
 use Rattle.path_walk.specs.Footprint.{footprint}
 use Rattle.row_tree.specs.HasTree.{HasTree}
+use Rattle.tree_model.specs.Calls.{effect}
+use Rattle.tree_model.specs.Effects.{Makes}
 use Rattle.tree_model.specs.Tree.{Tree}
 use Rattle.txn_task.specs.declared.messages.Entry.{Entry}
 use Rattle.client_core.specs.Client.{ClientView, has_ended}
@@ -28,6 +30,7 @@ use Rattle.world_core.specs.World.{AreSeated, HaveEnded, WorldView, plan_of, rec
 use Rattle.world_core.specs.declared.seats.Seat.{Seat}
 use Rattle.world_core.specs.declared.seats.Work.{Work}
 use Rattle.world_core.proofs.History.{entry_sound, legal, rows_ascend, rows_tree}
+use Rattle.world_core.proofs.Replies.{made_reply}
 use Rattle.world_core.proofs.Seating.{one_seat}
 
 -- ---- each entry
@@ -36,11 +39,15 @@ pub entry_right : (C : Settings) (journal : List Entry) (place : ℕ) (e : Entry
 entry_right C journal place e s covered at =
     let sound = entry_sound C journal s place e at in
     let tree : HasTree C (journal_rows C journal place) (tree_at C journal place) = rows_tree C journal s place in
+    let tree_here : Tree = tree_at C journal place in
+    let made : (V : Tree) × (effect C tree_here e.request ≡ Makes V e.reply) = sound.0.makes (journal_rows C journal place) tree_here (rows_ascend C journal s place) tree sound.1 in
     record {
       agrees = sound.1;
       touched = subst (λ (T : Tree). AreTouched (footprint T e.request) e.reads) tree.3
           (covered place e at tree.0 tree.2 (record { rows = journal_rows C journal place; ascending = rows_ascend C journal s place; spells = tree.1; agrees = sound.1 }));
       none_asked = sound.0.none_asked;
+      update = sound.0.update;
+      accepted = made_reply C tree_here made.0 e.request e.reply made.1;
     }
 
 -- ---- each client's receipts
