@@ -63,13 +63,14 @@ AreConflicts C journal request floor (pair ∷ pairs) = NamesLater C journal req
 
 -- ---- marks
 
--- an entry has the reply: that of the receipt's version, made after the call began
+-- an entry has the reply: that of the receipt's version, made at the server that answered, after the call began
 pub record NamesEntry (journal : List Entry) (request : Request) (front : ℕ) (receipt : Receipt) : Type 0 where
   pub place : ℕ
   pub version : receipt.version ≡ place + 1
   pub entry : Entry
   pub at : EntryAt journal place entry
   pub client : entry.request.client ≡ request.client
+  pub server : entry.request.server ≡ request.server
   pub number : entry.request.number ≡ request.number
   pub stamp : entry.request.stamp ≡ request.stamp
   pub call : entry.request.call ≡ request.call

@@ -73,6 +73,7 @@ module _ (C : Settings) (attempts : ℕ) (journal : List Entry) (k : ℕ) (scrip
                 entry = e;
                 at = at;
                 client = ap (λ (q : Request). q.client) same;
+                server = ap (λ (q : Request). q.server) same;
                 number = ap (λ (q : Request). q.number) same;
                 stamp = ap (λ (q : Request). q.stamp) same;
                 call = ap (λ (q : Request). q.call) same;

@@ -91,6 +91,7 @@ module _ (C : Settings) (es : List Entry) (new : Entry) where
         entry = h.entry;
         at = EntryAt-grown es new h.place h.entry h.at;
         client = h.client;
+        server = h.server;
         number = h.number;
         stamp = h.stamp;
         call = h.call;
