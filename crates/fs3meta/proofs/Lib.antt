@@ -1,1 +1,5 @@
+pub mod Alone
 pub mod Due
+pub mod Effects
+pub mod Marks
+pub mod Naming

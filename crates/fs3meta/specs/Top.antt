@@ -6,12 +6,14 @@ use Rattle.std.specs.declared.alloc.Global.{Global}
 use Rattle.fs_io.specs.Causes.{Rose}
 use Rattle.fs_io.specs.Reading.{ReadsToEnd}
 use Rattle.client_core.specs.declared.plan.Plan.{Plan}
+use Rattle.client_core.specs.declared.plan.Script.{Script}
 use Rattle.run_record.specs.Replies.{replies_text}
 use Rattle.run_record.specs.Right.{IsRight}
 use Rattle.run_record.specs.Words.{line, setting}
 use Rattle.run_record.specs.declared.run.Record.{Record}
 use Rattle.scenario.specs.declared.broken.Broken.{Broken}
 use Rattle.scenario.specs.Scenario.{scenario_of}
+use Rattle.fs3meta.specs.Alone.{receipts_of}
 use Rattle.fs3meta.specs.declared.top.Status.{Status}
 use Rattle.fs3meta.specs.declared.top.Status.TheVariants as status
 
@@ -30,6 +32,9 @@ bad_line broken = line (codes "bad" ∷ setting (codes "rule=") broken.rule ∷ 
 pub record IsRunOf (plan : Plan) (text : List ℕ) : Type 0 where
   pub run : Record
   pub right : IsRight plan run
+  -- with a single client nothing is left open: its calls are answered one after another,
+  -- each as the plain tree that the calls before it led to answers it, and no call meets a conflict
+  pub alone : (script : Script) → plan.clients ≡ script ∷ [] → run.receipts ≡ receipts_of plan.config script
   pub written : text ≡ replies_text run
 
 -- the input reads as a plan, and the text is that of its run

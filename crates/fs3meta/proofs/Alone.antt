@@ -1,0 +1,252 @@
+-- With one client the receipts are the plain tree's replies, one call after another.
+use Rattle.std.proofs.Common.{◌≡◌, ℕ, zero, suc, ◌+◌, ◌<◌, ◌≤◌, inl, inr, List, [], ◌∷◌, ◌++◌, Bool, true, false, cond, take, length, refl, sym, ap, subst, ◌∙◌, arith, add-one, MatchOption}
+use Rattle.std.specs.Prelude.{Option, Some, None, ⊤, IsTrue}
+use Rattle.std.specs.FinMap.{get, get-empty}
+use Rattle.std.specs.Ordering.{nat_cmp}
+use Rattle.std.proofs.lemmas.Bool.{cases_Bool}
+use Rattle.std.proofs.lemmas.List.{append-nil}
+use Rattle.std.proofs.lemmas.Option.{same_Some}
+use Rattle.fs_base.specs.Config.{Settings}
+use Rattle.fs_base.specs.declared.call.Call.{Call}
+use Rattle.fs_base.specs.declared.call.Request.{Request}
+use Rattle.fs_base.specs.declared.ids.ClientId.{ClientId}
+use Rattle.fs_base.specs.declared.reply.Reply.{Reply}
+use Rattle.key_schema.specs.declared.key.Key.{Key}
+use Rattle.tree_model.specs.declared.kept.KeptReply.{KeptReply}
+use Rattle.tree_model.specs.Calls.{apply, is_built, is_query}
+use Rattle.tree_model.specs.Tree.{Tree, new_tree}
+use Rattle.txn_task.specs.declared.messages.Entry.{Entry}
+use Rattle.txn_task.specs.declared.outcome.Receipt.{Receipt}
+use Rattle.client_core.specs.Ops.{call_of, request_of}
+use Rattle.client_core.specs.Plans.{IsPlan, ops_in}
+use Rattle.client_core.specs.declared.plan.Op.{Op}
+use Rattle.client_core.specs.declared.plan.Op.TheVariants as ops
+use Rattle.client_core.specs.declared.plan.Plan.{Plan}
+use Rattle.client_core.specs.declared.plan.Script.{Script}
+use Rattle.run_record.specs.Legal.{AreReplies, EntryAt, tree_after, tree_at}
+use Rattle.run_record.specs.Receipts.{AreConflicts, AreReceipts, Follow, IsOf, IsSeen, IsSection, NamesEntry, Rises, fronts_of}
+use Rattle.run_record.specs.Replies.{replies_text}
+use Rattle.run_record.specs.Right.{AreSections, IsNoRefusal, IsRight, IsRightEntry}
+use Rattle.run_record.specs.declared.run.Listed.{Listed}
+use Rattle.run_record.specs.declared.run.Record.{Record}
+use Rattle.world_core.proofs.Growth.{EntryAt_within}
+use Rattle.fs3meta.specs.Alone.{commits, listed, receipt_of, receipts_from, receipts_of, version_after}
+use Rattle.fs3meta.specs.Top.{IsRunOf}
+use Rattle.fs3meta.proofs.Marks.{IsNewIn, entry_mark, kept_after, told_mark}
+use Rattle.fs3meta.proofs.Naming.{AreNamedFrom, naming, journal_short, front_above, named_rest, of_commit, of_seen, own_entry, place_next, version_seen}
+
+-- ---- requests and receipts by their parts
+
+of_five : {A B C D E X : Type 0} (f : A → B → C → D → E → X) (a0 b0 : A) (a1 b1 : B) (a2 b2 : C) (a3 b3 : D) (a4 b4 : E) → a0 ≡ b0 → a1 ≡ b1 → a2 ≡ b2 → a3 ≡ b3 → a4 ≡ b4 → f a0 a1 a2 a3 a4 ≡ f b0 b1 b2 b3 b4
+of_five f a0 b0 a1 b1 a2 b2 a3 b3 a4 b4 e0 e1 e2 e3 e4 = cc
+
+same_request : (a b : Request) → a.server ≡ b.server → a.client ≡ b.client → a.number ≡ b.number → a.stamp ≡ b.stamp → a.call ≡ b.call → a ≡ b
+same_request a b server client number stamp call =
+    of_five (λ (s : ℕ) (c : ClientId) (n t : ℕ) (l : Call). record { server = s; client = c; number = n; stamp = t; call = l }) a.server b.server a.client b.client a.number b.number a.stamp b.stamp a.call b.call server client number stamp call
+
+-- the request of a receipt
+asked : (a b : Request) (r : Receipt) → a.client ≡ b.client → IsOf a r → IsOf b r → a ≡ b
+asked a b r client x y =
+    same_request a b (same_Some a.server b.server (sym x.server ∙ y.server)) client (same_Some a.number b.number (sym x.number ∙ y.number)) (sym x.stamp ∙ y.stamp) (sym x.call ∙ y.call)
+
+same_receipt : (a b : Receipt) → a.op ≡ b.op → a.number ≡ b.number → a.server ≡ b.server → a.stamp ≡ b.stamp → a.call ≡ b.call → a.reply ≡ b.reply → a.committed ≡ b.committed → a.version ≡ b.version
+    → a.conflicts ≡ b.conflicts → a.gone ≡ b.gone → a ≡ b
+same_receipt a b op number server stamp call reply committed version conflicts gone =
+    let first : a ≡ record a { op = b.op; number = b.number; server = b.server; stamp = b.stamp; call = b.call } =
+    of_five (λ (o : ℕ) (n s : Option ℕ) (t : ℕ) (l : Call). record a { op = o; number = n; server = s; stamp = t; call = l }) a.op b.op a.number b.number a.server b.server a.stamp b.stamp a.call b.call op number server stamp call in
+    let others : record b { reply = a.reply; committed = a.committed; version = a.version; conflicts = a.conflicts; gone = a.gone } ≡ b =
+    of_five (λ (r : Reply) (c : Bool) (v : ℕ) (cs : List (ℕ × Key)) (g : List (ℕ × ℕ)). record b { reply = r; committed = c; version = v; conflicts = cs; gone = g }) a.reply b.reply a.committed b.committed a.version b.version a.conflicts b.conflicts a.gone b.gone reply committed version conflicts gone in
+    first ∙ others
+
+same_listed : (a b : Listed) → a.client ≡ b.client → a.fronts ≡ b.fronts → a.receipt ≡ b.receipt → a ≡ b
+same_listed a b client fronts receipt =
+    ap (λ n. record a { client = n }) client ∙ (ap (λ (ns : List ℕ). record a { client = b.client; fronts = ns }) fronts ∙ ap (λ (r : Receipt). record b { receipt = r }) receipt)
+
+-- ---- the tree from entry to entry
+
+tree_next : (C : Settings) (T : Tree) (es : List Entry) (n : ℕ) (e : Entry) → EntryAt es n e → tree_after C T (take (suc n) es) ≡ (apply C (tree_after C T (take n es)) e.request).0
+tree_next C T [] n e at = absurd (let k : None ≡ Some e = at in cc)
+tree_next C T (x ∷ es) zero e at =
+    let same : x ≡ e = same_Some x e at in
+    ap (λ (y : Entry). (apply C T y.request).0) same
+tree_next C T (x ∷ es) (suc n) e at = tree_next C (apply C T x.request).0 es n e at
+
+reply_at : (C : Settings) (T : Tree) (es : List Entry) → AreReplies C T es → (n : ℕ) (e : Entry) → EntryAt es n e → (apply C (tree_after C T (take n es)) e.request).1 ≡ e.reply
+reply_at C T [] replies n e at = absurd (let k : None ≡ Some e = at in cc)
+reply_at C T (x ∷ es) replies zero e at =
+    let same : x ≡ e = same_Some x e at in
+    subst (λ (y : Entry). (apply C T y.request).1 ≡ y.reply) same replies.0
+reply_at C T (x ∷ es) replies (suc n) e at = reply_at C (apply C T x.request).0 es replies.1 n e at
+
+-- ---- an operation's call is built, and its number is new
+
+built : (step : Op) → IsTrue (is_built (call_of step))
+built (ops.Mkdir stamp p m l) = refl
+built (ops.Create stamp p m l) = refl
+built (ops.Symlink stamp p target) = refl
+built (ops.Setattr stamp p c) = refl
+built (ops.Lookup stamp p) = refl
+built (ops.Stat stamp p) = refl
+built (ops.List stamp p) = refl
+built (ops.Readlink stamp p) = refl
+
+-- the tree keeps no number of the client above this one
+abbrev KeepsTo : Tree → ClientId → ℕ → Type 0
+KeepsTo T client n = MatchOption (get T.kept client.0) ⊤ (λ k. k.number ≤ n)
+
+below : (o : Option KeptReply) (n : ℕ) → MatchOption o ⊤ (λ k. k.number ≤ n) → MatchOption o ⊤ (λ k. k.number < n + 1)
+below None n h = tt
+below (Some k) n h = omega arith
+
+-- ---- along the receipts
+
+-- an entry is the one client's, and an update that was done
+record IsOwn (script : Script) (e : Entry) : Type 0 where
+  client : e.request.client ≡ script.id
+  update : is_query e.request.call ≡ false
+  accepted : IsNoRefusal e.reply
+
+-- the receipt is the plain tree's, and its version the tree's that follows
+record IsNext (C : Settings) (journal : List Entry) (script : Script) (op v : ℕ) (step : Op) (l : Listed) : Type 0 where
+  same : l ≡ listed C v (receipt_of script op v step (apply C (tree_at C journal v) (request_of script op step)).1)
+  next : tree_at C journal l.receipt.version ≡ (apply C (tree_at C journal v) (request_of script op step)).0
+
+-- a receipt with the right reply, mark and version is the one
+made : (C : Settings) (script : Script) (op v : ℕ) (step : Op) (reply : Reply) (l : Listed) → l.client ≡ 0 → l.fronts ≡ fronts_of C v → l.receipt.op ≡ op → IsOf (request_of script op step) l.receipt → l.receipt.gone ≡ []
+    → l.receipt.conflicts ≡ [] → l.receipt.reply ≡ reply → l.receipt.committed ≡ commits (call_of step) reply → l.receipt.version ≡ version_after v (call_of step) reply → l ≡ listed C v (receipt_of script op v step reply)
+made C script op v step reply l client fronts ordinal is_of gone conflicts replied mark version =
+    same_listed l (listed C v (receipt_of script op v step reply)) client fronts
+    (same_receipt l.receipt (receipt_of script op v step reply) ordinal is_of.number is_of.server is_of.stamp is_of.call replied mark version conflicts gone)
+
+module _ (C : Settings) (attempts : ℕ) (script : Script) (journal : List Entry) (some : 1 ≤ attempts) (few : length journal < 200000) (replies : AreReplies C (new_tree C) journal)
+    (own : (place : ℕ) (e : Entry) → EntryAt journal place e → IsOwn script e) where
+  -- no conflict names another client's entry
+  no_conflict : (q : Request) (floor : ℕ) (pairs : List (ℕ × Key)) → q.client ≡ script.id → AreConflicts C journal q floor pairs → pairs ≡ []
+  no_conflict q floor [] mine h = refl
+  no_conflict q floor (pair ∷ pairs) mine h = absurd (h.0.other ((own h.0.place h.0.entry h.0.at).client ∙ sym mine))
+
+  module _ (op v : ℕ) (step : Op) (steps : List Op) (l : Listed) (rest : List Listed) (follow : Follow 0 script op (step ∷ steps) (l ∷ rest)) (h : AreReceipts C attempts journal script.id (l ∷ rest))
+      (rises : Rises v (l ∷ rest)) (named : AreNamedFrom journal v (l ∷ rest)) (new : IsNewIn (tree_at C journal v) (request_of script op step)) where
+    request_is : h.0.request ≡ request_of script op step
+    request_is = asked h.0.request (request_of script op step) l.receipt h.0.client_is h.0.is_of follow.2
+
+    none : l.receipt.conflicts ≡ []
+    none = no_conflict h.0.request h.0.front l.receipt.conflicts h.0.client_is h.0.conflicts
+
+    commit_next : l.receipt.committed ≡ true → IsNext C journal script op v step l
+    commit_next is =
+        let names : NamesEntry journal h.0.request h.0.front l.receipt = of_commit C attempts journal script.id l h.0 is in
+        let place : names.place ≡ v = place_next C attempts journal script.id v l rest h rises named is in
+        let at : EntryAt journal v names.entry = subst (λ n. EntryAt journal n names.entry) place names.at in
+        let mine : IsOwn script names.entry = own v names.entry at in
+        let entry_is : names.entry.request ≡ request_of script op step = same_request names.entry.request h.0.request names.server names.client names.number names.stamp names.call ∙ request_is in
+        let reply : (apply C (tree_at C journal v) (request_of script op step)).1 ≡ l.receipt.reply =
+        ap (λ (r : Request). (apply C (tree_at C journal v) r).1) (sym entry_is) ∙ (reply_at C (new_tree C) journal replies v names.entry at ∙ names.reply) in
+        let accepted : IsNoRefusal (apply C (tree_at C journal v) (request_of script op step)).1 = subst IsNoRefusal (names.reply ∙ sym reply) mine.accepted in
+        let update : is_query (call_of step) ≡ false = ap (λ (r : Request). is_query r.call) (sym entry_is) ∙ mine.update in
+        let mark : commits (call_of step) (apply C (tree_at C journal v) (request_of script op step)).1 ≡ true = entry_mark (request_of script op step) (apply C (tree_at C journal v) (request_of script op step)).1 update accepted in
+        let version : l.receipt.version ≡ v + 1 = names.version ∙ ap (λ n. n + 1) place in
+        let above : v ≤ h.0.front = front_above C attempts journal script.id v l rest h.0 rises in
+        let later : h.0.front ≤ names.place = names.above in
+        let front : h.0.front ≡ v = omega arith in
+        record {
+          same = made C script op v step (apply C (tree_at C journal v) (request_of script op step)).1 l follow.0 (h.0.fronts ∙ ap (fronts_of C) front) follow.1 follow.2 follow.3 none (sym reply) (is ∙ sym mark)
+              (version ∙ ap (λ b. cond b (v + 1) v) (sym mark));
+          next = ap (tree_at C journal) (version ∙ add-one v) ∙ (tree_next C (new_tree C) journal v names.entry at ∙ ap (λ (r : Request). (apply C (tree_at C journal v) r).0) entry_is);
+        }
+
+    seen_told : l.receipt.committed ≡ false → apply C (tree_at C journal v) (request_of script op step) ≡ (tree_at C journal v, l.receipt.reply)
+    seen_told is =
+        let seen : IsSeen C attempts journal h.0.request h.0.front l.receipt = of_seen C attempts journal script.id l h.0 is in
+        let version : l.receipt.version ≡ v = version_seen C attempts journal script.id v l rest h rises named is in
+        elim seen.told [
+          | inl told ↦
+              (let now : apply C (tree_at C journal v) h.0.request ≡ (tree_at C journal v, l.receipt.reply) = subst (λ n. apply C (tree_at C journal n) h.0.request ≡ (tree_at C journal n, l.receipt.reply)) version told in
+              subst (λ (r : Request). apply C (tree_at C journal v) r ≡ (tree_at C journal v, l.receipt.reply)) request_is now)
+          | inr other ↦ elim other [
+            | inl spent ↦ absurd (let spent_all : length l.receipt.conflicts ≡ attempts = spent.1 in let nothing : length l.receipt.conflicts ≡ 0 = ap length none in omega arith)
+            | inr full ↦ absurd (let all : length journal ≡ 200000 = full.1 in omega arith)
+          ]
+        ]
+
+    seen_next : l.receipt.committed ≡ false → IsNext C journal script op v step l
+    seen_next is =
+        let seen : IsSeen C attempts journal h.0.request h.0.front l.receipt = of_seen C attempts journal script.id l h.0 is in
+        let version : l.receipt.version ≡ v = version_seen C attempts journal script.id v l rest h rises named is in
+        let told : apply C (tree_at C journal v) (request_of script op step) ≡ (tree_at C journal v, l.receipt.reply) = seen_told is in
+        let reply : (apply C (tree_at C journal v) (request_of script op step)).1 ≡ l.receipt.reply = ap (λ (p : Tree × Reply). p.1) told in
+        let mark : commits (call_of step) l.receipt.reply ≡ false = told_mark C (tree_at C journal v) (request_of script op step) l.receipt.reply (built step) new told in
+        let mark_is : commits (call_of step) (apply C (tree_at C journal v) (request_of script op step)).1 ≡ false = ap (commits (call_of step)) reply ∙ mark in
+        let above : v ≤ h.0.front = front_above C attempts journal script.id v l rest h.0 rises in
+        let later : h.0.front ≤ l.receipt.version = seen.above in
+        let front : h.0.front ≡ v = omega arith in
+        record {
+          same = made C script op v step (apply C (tree_at C journal v) (request_of script op step)).1 l follow.0 (h.0.fronts ∙ ap (fronts_of C) front) follow.1 follow.2 follow.3 none (sym reply) (is ∙ sym mark_is)
+              (version ∙ ap (λ b. cond b (v + 1) v) (sym mark_is));
+          next = ap (tree_at C journal) version ∙ sym (ap (λ (p : Tree × Reply). p.0) told);
+        }
+
+    one_next : IsNext C journal script op v step l
+    one_next = elim (cases_Bool l.receipt.committed) [ inl is ↦ commit_next is | inr is ↦ seen_next is ]
+
+    -- what the tree keeps afterwards
+    kept_next : KeepsTo (tree_at C journal l.receipt.version) script.id (op + 1)
+    kept_next = subst (λ (T : Tree). KeepsTo T script.id (op + 1)) (sym one_next.next) (kept_after C (tree_at C journal v) (request_of script op step) new)
+
+  along : (op v : ℕ) (steps : List Op) (receipts : List Listed) → Follow 0 script op steps receipts → AreReceipts C attempts journal script.id receipts → Rises v receipts → AreNamedFrom journal v receipts
+      → KeepsTo (tree_at C journal v) script.id op → receipts ≡ receipts_from C script (tree_at C journal v) op v steps
+  unfolding receipts_from
+  along op v [] [] follow h rises named kept = refl
+  along op v [] (l ∷ rest) follow h rises named kept = absurd follow
+  along op v (step ∷ steps) [] follow h rises named kept = absurd follow
+  along op v (step ∷ steps) (l ∷ rest) follow h rises named kept =
+      let new : IsNewIn (tree_at C journal v) (request_of script op step) = below (get (tree_at C journal v).kept script.id.0) op kept in
+      let one : IsNext C journal script op v step l = one_next op v step steps l rest follow h rises named new in
+      let version : l.receipt.version ≡ version_after v (call_of step) (apply C (tree_at C journal v) (request_of script op step)).1 = ap (λ (x : Listed). x.receipt.version) one.same in
+      let others : rest ≡ receipts_from C script (tree_at C journal l.receipt.version) (op + 1) l.receipt.version steps =
+      along (op + 1) l.receipt.version steps rest follow.4 h.1 rises.2 (named_rest C attempts journal script.id v l rest h rises named) (kept_next op v step steps l rest follow h rises named new) in
+      ap (λ (x : Listed). x ∷ rest) one.same
+      ∙ ap (λ (xs : List Listed). listed C v (receipt_of script op v step (apply C (tree_at C journal v) (request_of script op step)).1) ∷ xs)
+      (others
+      ∙ (ap (λ (T : Tree). receipts_from C script T (op + 1) l.receipt.version steps) one.next
+      ∙ ap (λ n. receipts_from C script (apply C (tree_at C journal v) (request_of script op step)).0 (op + 1) n steps) version))
+
+-- ---- the whole record
+
+follow_length : (k : ℕ) (script : Script) (op : ℕ) (steps : List Op) (receipts : List Listed) → Follow k script op steps receipts → length receipts ≡ length steps
+follow_length k script op [] [] follow = refl
+follow_length k script op [] (l ∷ rest) follow = absurd follow
+follow_length k script op (step ∷ steps) [] follow = absurd follow
+follow_length k script op (step ∷ steps) (l ∷ rest) follow = ap suc (follow_length k script (op + 1) steps rest follow.4)
+
+of_section : (C : Settings) (attempts : ℕ) (script : Script) (journal : List Entry) (own : List Listed) → 1 ≤ attempts → length script.ops ≤ 4000 → AreReplies C (new_tree C) journal
+    → ((place : ℕ) (e : Entry) → EntryAt journal place e → IsRightEntry C journal place e) → IsSection C attempts journal 0 script own → AreNamedFrom journal 0 own → own ≡ receipts_of C script
+of_section C attempts script journal own some short replies entries section named =
+    let count : length own ≡ length script.ops = follow_length 0 script 0 script.ops own section.follow in
+    let few : length journal ≤ 0 + length own = journal_short C attempts journal script.id 0 own section.each section.rises named in
+    let kept : KeepsTo (new_tree C) script.id 0 = subst (λ (o : Option KeptReply). MatchOption o ⊤ (λ k. k.number ≤ 0)) (sym (get-empty nat_cmp script.id.0)) tt in
+    along C attempts script journal some (omega arith) replies mine 0 0 script.ops own section.follow section.each section.rises named kept
+  where
+    mine : (place : ℕ) (e : Entry) → EntryAt journal place e → IsOwn script e
+    mine place e at = record {
+      client = own_entry C attempts journal script.id own section.each place e at (named place (omega arith) (EntryAt_within journal place e at));
+      update = (entries place e at).update;
+      accepted = (entries place e at).accepted;
+    }
+
+pub alone : (plan : Plan) (run : Record) (script : Script) → 1 ≤ plan.attempts → length script.ops ≤ 4000 → plan.clients ≡ script ∷ [] → IsRight plan run → run.receipts ≡ receipts_of plan.config script
+alone plan run script some short one right =
+    let sections : AreSections plan.config plan.attempts run.entries 0 (script ∷ []) run.receipts = subst (λ (scripts : List Script). AreSections plan.config plan.attempts run.entries 0 scripts run.receipts) one right.sections in
+    let whole : run.receipts ≡ sections.0 = sections.2 ∙ (ap (λ (xs : List Listed). sections.0 ++ xs) sections.4 ∙ append-nil sections.0) in
+    let named : AreNamedFrom run.entries 0 sections.0 = (λ place above within. ap (naming place) (sym whole) ∙ right.named place within) in
+    whole ∙ of_section plan.config plan.attempts script run.entries sections.0 some short right.legal.replies right.entries sections.3 named
+
+-- the text of a record that is right for the plan
+pub run_of : (plan : Plan) (run : Record) (text : List ℕ) → IsPlan plan → IsRight plan run → text ≡ replies_text run → IsRunOf plan text
+run_of plan run text is right written = record { run = run; right = right; alone = single; written = written }
+  where
+    single : (script : Script) → plan.clients ≡ script ∷ [] → run.receipts ≡ receipts_of plan.config script
+    single script one =
+        let all : ops_in plan.clients ≡ length script.ops + 0 = ap ops_in one in
+        let short : ops_in plan.clients ≤ 4000 = is.short in
+        alone plan run script is.attempts_from (omega arith) one right

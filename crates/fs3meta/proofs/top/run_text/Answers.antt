@@ -1,0 +1,12 @@
+use Rattle.std.proofs.Common.{subst}
+use Rattle.std.proofs.lemmas.Result.{IfOk-weaker}
+use Rattle.client_core.specs.declared.plan.Plan.{Plan}
+use Rattle.run_record.specs.Right.{IsRight}
+use Rattle.fs3meta.proofs.Alone.{run_of}
+use Rattle.fs3meta.proofs.top.run_text.Goals as goal
+
+pub returns : goal.returns
+returns c =
+    IfOk-weaker c.write_replies.result _ _
+    (λ text written. run_of c.args.plan c.in_ok-run.run' text.items c.requires (subst (λ (plan : Plan). IsRight plan c.in_ok-run.run') c.in_ok-world.ensures.plan c.in_ok-run.ensures) written)
+    c.write_replies.ensures

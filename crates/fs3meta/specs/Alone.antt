@@ -1,0 +1,57 @@
+-- What a client that is alone is told: the plain tree's replies, one call after another.
+use Rattle.std.specs.Prelude.{ℕ, ◌+◌, List, [], ◌∷◌, Bool, true, false, not, if◌then◌else◌, Some}
+use Rattle.fs_base.specs.Config.{Settings}
+use Rattle.fs_base.specs.declared.call.Call.{Call}
+use Rattle.fs_base.specs.declared.reply.Reply.{Reply}
+use Rattle.fs_base.specs.declared.reply.Reply.TheVariants as replies
+use Rattle.tree_model.specs.Calls.{apply, is_query}
+use Rattle.tree_model.specs.Tree.{Tree, new_tree}
+use Rattle.txn_task.specs.declared.outcome.Receipt.{Receipt}
+use Rattle.client_core.specs.Ops.{call_of, stamp_of, request_of}
+use Rattle.client_core.specs.declared.plan.Op.{Op}
+use Rattle.client_core.specs.declared.plan.Script.{Script}
+use Rattle.run_record.specs.Receipts.{fronts_of}
+use Rattle.run_record.specs.declared.run.Listed.{Listed}
+
+abbrev pub is_refusal : Reply → Bool
+is_refusal (replies.Refused code) = true
+is_refusal _ = false
+
+-- an update that isn't refused is committed
+abbrev pub commits : Call → Reply → Bool
+commits call reply = if is_refusal reply then false else not (is_query call)
+
+-- a commit makes the next version
+abbrev pub version_after : ℕ → Call → Reply → ℕ
+version_after version call reply = if commits call reply then version + 1 else version
+
+-- of an operation that had this reply over the tree at this version: no conflict, and no server that stopped
+abbrev pub receipt_of : Script → ℕ → ℕ → Op → Reply → Receipt
+receipt_of script op version step reply =
+    record {
+      op = op;
+      number = Some (op + 1);
+      server = Some script.home;
+      stamp = stamp_of step;
+      call = call_of step;
+      reply = reply;
+      committed = commits (call_of step) reply;
+      version = version_after version (call_of step) reply;
+      conflicts = [];
+      gone = [];
+    }
+
+-- what the one client, 0, keeps; it has seen all versions so far
+abbrev pub listed : Settings → ℕ → Receipt → Listed
+listed C version receipt = record { client = 0; fronts = fronts_of C version; receipt = receipt }
+
+-- the receipts of the operations from op on, over the tree at this version
+unfoldable pub receipts_from : Settings → Script → Tree → ℕ → ℕ → List Op → List Listed
+receipts_from C script T op version [] = []
+receipts_from C script T op version (step ∷ steps) =
+    let answered = apply C T (request_of script op step) in
+    listed C version (receipt_of script op version step answered.1)
+    ∷ receipts_from C script answered.0 (op + 1) (version_after version (call_of step) answered.1) steps
+
+abbrev pub receipts_of : Settings → Script → List Listed
+receipts_of C script = receipts_from C script (new_tree C) 0 0 script.ops
