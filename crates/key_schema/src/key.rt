@@ -1,5 +1,6 @@
-ghost use Rattle.std.specs.Prelude.{◌≡◌, IfOk};
-ghost use Rattle.key_schema.specs.Keys.{spelled_key, OneKeyEach};
+ghost use Rattle.std.specs.Prelude.{◌≡◌, [], ◌∷◌, ◌++◌, IfOk, OnOk};
+ghost use Rattle.std.specs.Int.{w64, w128, to_le_bytes, to_be_bytes};
+ghost use Rattle.key_schema.specs.Keys.{body, spelled_key, OneKeyEach};
 ghost use Rattle.key_schema.specs.declared.key.KeyError.TheVariants as errors;
 
 use fs_base::{ClientId, InodeId, Memory, Name};
@@ -49,37 +50,80 @@ impl Key {
         ensures { IfOk result (λ bytes. bytes.items ≡ spelled_key self.now) }
     {
         let mut bytes = Vec::new(alloc);
-        match self {
-            Key::Alloc(server) => {
-                bytes.extend_from_slice(b"ALOC")?;
-                bytes.push(*server)?;
-            }
-            Key::Dent(parent, name) => {
-                bytes.extend_from_slice(b"DENT")?;
-                bytes.extend_from_slice(&parent.get().to_le_bytes())?;
-                bytes.extend_from_slice(name.bytes())?;
-            }
-            Key::Gc(id) => {
-                bytes.extend_from_slice(b"GCOL")?;
-                bytes.extend_from_slice(&id.get().to_le_bytes())?;
-            }
-            Key::Idem(client) => {
-                bytes.extend_from_slice(b"IDEM")?;
-                bytes.extend_from_slice(&client.0.to_be_bytes())?;
-            }
-            Key::Inode(inode) => {
-                bytes.extend_from_slice(b"INOD")?;
-                bytes.extend_from_slice(&inode.get().to_le_bytes())?;
-            }
-            Key::Session(file, client, number) => {
-                bytes.extend_from_slice(b"SESS")?;
-                bytes.extend_from_slice(&file.get().to_le_bytes())?;
-                bytes.extend_from_slice(&client.0.to_be_bytes())?;
-                bytes.extend_from_slice(&number.to_be_bytes())?;
-            }
-        }
+        bytes.extend_from_slice(&self.letters())?;
+        self.put_body(&mut bytes)?;
         Ok(bytes)
     }
+
+    /// Adds what follows the letters.
+    fn put_body(&self, bytes: &mut Vec<u8>) -> Result<(), Memory>
+        ensures { OnOk result (bytes.new.items ≡ bytes.old.items ++ body self.now) }
+    {
+        match self {
+            Key::Alloc(server) => put_server(bytes, *server),
+            Key::Dent(parent, name) => put_entry(bytes, *parent, name),
+            Key::Gc(inode) | Key::Inode(inode) => put_id(bytes, *inode),
+            Key::Idem(client) => put_client(bytes, *client),
+            Key::Session(file, client, number) => put_session(bytes, *file, *client, *number),
+        }
+    }
+}
+
+fn put_server(bytes: &mut Vec<u8>, server: u8) -> Result<(), Memory>
+    ensures { OnOk result (bytes.new.items ≡ bytes.old.items ++ server ∷ []) }
+{
+    bytes.push(server)?;
+    Ok(())
+}
+
+fn put_id(bytes: &mut Vec<u8>, inode: InodeId) -> Result<(), Memory>
+    ensures { OnOk result (bytes.new.items ≡ bytes.old.items ++ to_le_bytes w64 inode) }
+{
+    bytes.extend_from_slice(&inode.get().to_le_bytes())?;
+    Ok(())
+}
+
+fn put_entry(bytes: &mut Vec<u8>, parent: InodeId, name: &Name) -> Result<(), Memory>
+    ensures { OnOk result (bytes.new.items ≡ bytes.old.items ++ (to_le_bytes w64 parent ++ name.now)) }
+{
+    put_id(bytes, parent)?;
+    bytes.extend_from_slice(name.bytes())?;
+    Ok(())
+}
+
+fn put_client(bytes: &mut Vec<u8>, client: ClientId) -> Result<(), Memory>
+    ensures { OnOk result (bytes.new.items ≡ bytes.old.items ++ to_be_bytes w128 client.0) }
+{
+    bytes.extend_from_slice(&client.0.to_be_bytes())?;
+    Ok(())
+}
+
+/// A session's number, most significant byte first.
+fn put_number(bytes: &mut Vec<u8>, number: u64) -> Result<(), Memory>
+    ensures { OnOk result (bytes.new.items ≡ bytes.old.items ++ to_be_bytes w64 number) }
+{
+    bytes.extend_from_slice(&number.to_be_bytes())?;
+    Ok(())
+}
+
+fn put_holder(bytes: &mut Vec<u8>, client: ClientId, number: u64) -> Result<(), Memory>
+    ensures { OnOk result (bytes.new.items ≡ bytes.old.items ++ (to_be_bytes w128 client.0 ++ to_be_bytes w64 number)) }
+{
+    put_client(bytes, client)?;
+    put_number(bytes, number)
+}
+
+fn put_session(
+    bytes: &mut Vec<u8>,
+    file: InodeId,
+    client: ClientId,
+    number: u64,
+) -> Result<(), Memory>
+    ensures { OnOk result (bytes.new.items ≡ bytes.old.items ++ (to_le_bytes w64 file ++ (to_be_bytes w128 client.0 ++ to_be_bytes w64 number))) }
+{
+    put_id(bytes, file)?;
+    put_holder(bytes, client, number)?;
+    Ok(())
 }
 
 /// Keys with one spelling are one key. It does nothing; its contract is the law.

@@ -11,7 +11,8 @@ use fs_base::InodeId;
 use std::cmp::Ordering;
 
 impl Key {
-    fn letters(&self) -> [u8; 4]
+    /// The four letters that tell the form.
+    pub(crate) fn letters(&self) -> [u8; 4]
         ensures { result ≡ letters self.now }
     {
         match self {
