@@ -17,7 +17,7 @@ use std::sync::Wait;
 impl<S: Held + Drop> Board<S> {
     /// Takes its memory, then waits for a turn on each object and passes none on, and gives the objects in order.
     ///
-    /// Nobody adds an item to an object after its turn here. Without memory the objects are dropped.
+    /// Nobody adds an entry to an object after its turn here. Without memory the objects are dropped.
     pub fn close<W: Wait>(self, rt: &W, alloc: Global, last: Pass<S>) -> Result<Vec<S>, Memory>
         requires board { IsPassOf self last }
         ensures { IfOk result (λ objects. HasClosed last objects.items) }

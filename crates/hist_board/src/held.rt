@@ -1,8 +1,9 @@
 //! An object with a history.
 ghost use Rattle.std.specs.Prelude.{◌≡◌, ℕ, List, length};
 
-/// An object that a board lends. Its history is a list of items, of which no turn takes one away.
+/// An object that a board lends. Its history is a list of entries, and no turn takes one away.
 pub trait Held {
+    /// An entry of the history.
     type Item;
 
     /// What all objects of one board have in common. No value of it is made.
@@ -16,7 +17,7 @@ pub trait Held {
     /// No work changes it.
     ghost kind: { Self → ℕ };
 
-    /// The errands of an item. Only a pass that holds them all may add it.
+    /// The errands of an entry: a pass that holds them all may add it, and no other.
     ghost errands: { Self.Frame → Self.Item → List ℕ };
 
     /// Whether the histories of all objects, in order, fit together.

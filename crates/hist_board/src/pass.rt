@@ -28,7 +28,7 @@ impl<S: Held> Pass<S> {
     ghost use Rattle.hist_board.specs.Passes.{SeesOn};
     ghost use Rattle.hist_board.specs.Calls.{view_of, IsPassOf, MayWorkAt, HasTurned};
 
-    /// How many items of the object's history the pass has seen.
+    /// How many entries of the object's history the pass has seen.
     pub fn seen(&self, object: u32) -> u64
         requires object { object < length (view_of self.now).kinds }
         ensures { result ≡ length (seen_at (view_of self.now) object) }
@@ -38,7 +38,7 @@ impl<S: Held> Pass<S> {
 
     /// Waits for the object's turn, lends it once to the work, and passes the turn on.
     ///
-    /// The work may add one item to the end of the history, if this pass holds the item's errands and if it fits
+    /// The work may add one entry to the end of the history, if this pass holds the entry's errands and if it fits
     /// whatever the other histories are, as far as this pass can know. Else it leaves the history as it is.
     pub fn turn_with<W: Wait, R, F: FnOnce(&mut S) -> R>(
         &mut self,

@@ -40,7 +40,7 @@ impl<S: Held> Play<S, View<S::Item, S::Frame>> for Take {
     ghost then = { taken S.history S.frame S.kind S.errands S.fits };
 }
 
-/// An item is added: length grows by 1.
+/// An entry is added: length grows by 1.
 pub struct Grow;
 
 impl<S: Held> Play<S, View<S::Item, S::Frame>> for Grow {
