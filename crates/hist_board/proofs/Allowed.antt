@@ -42,10 +42,12 @@ module _ {S I F : Type 0} (hist : S → List I) (frame : S → F) (kind : S → 
   seen_else : (v : View I F) (o : ℕ) (h : List I) (p : ℕ) → p ≢ o → lane p (with_seen o h v) ≡ lane p v
   seen_else v o h p n = λ i. record { turn = turn_at v p; seen = get_or-set_other v.seen o p h [] n i; mine = v.errands }
 
-  turn_here : (v : View I F) (o : ℕ) (t : Turn) → o < length v.turns → lane o (with_turn o t v) ≡ record { turn = t; seen = seen_at v o; mine = v.errands }
+  turn_here : (v : View I F) (o : ℕ) (t : Turn) → o < length v.turns
+      → lane o (with_turn o t v) ≡ record { turn = t; seen = seen_at v o; mine = v.errands }
   turn_here v o t lt = λ i. record { turn = get_or-set_same v.turns o t no_turn lt i; seen = seen_at v o; mine = v.errands }
 
-  seen_here : (v : View I F) (o : ℕ) (h : List I) → o < length v.seen → lane o (with_seen o h v) ≡ record { turn = turn_at v o; seen = h; mine = v.errands }
+  seen_here : (v : View I F) (o : ℕ) (h : List I) → o < length v.seen
+      → lane o (with_seen o h v) ≡ record { turn = turn_at v o; seen = h; mine = v.errands }
   seen_here v o h lt = λ i. record { turn = turn_at v o; seen = get_or-set_same v.seen o h [] lt i; mine = v.errands }
 
   turn_fits : (v : View I F) (o : ℕ) (t : Turn) → Fitted fr kinds v → Fitted fr kinds (with_turn o t v)
@@ -54,7 +56,8 @@ module _ {S I F : Type 0} (hist : S → List I) (frame : S → F) (kind : S → 
   seen_fits : (v : View I F) (o : ℕ) (h : List I) → Fitted fr kinds v → Fitted fr kinds (with_seen o h v)
   seen_fits v o h f = record { same_frame = f.same_frame; same_kinds = f.same_kinds; each_seen = length-set v.seen o h ∙ f.each_seen; each_turn = f.each_turn }
 
-  pub draw_allowed : (slots id : ℕ) (me : Me S (View I F)) (o next : ℕ) → o < length me.0.kinds → Live me.0 → turn_at me.0 o ≡ no_turn → next + 1 < 2 ^ 64
+  pub draw_allowed : (slots id : ℕ) (me : Me S (View I F)) (o next : ℕ) → o < length me.0.kinds → Live me.0
+      → turn_at me.0 o ≡ no_turn → next + 1 < 2 ^ 64
       → Allows R slots id me (3 * o) (λ n. either (n == next) (next + 1) n) (drawn (step slots (3 * o) next (next + 1) none) me)
   draw_allowed slots id me o next near live free room s k sl at lt =
       exchanged (slice_index s.words (3 * o)) next (next + 1)
@@ -62,9 +65,12 @@ module _ {S I F : Type 0} (hist : S → List I) (frame : S → F) (kind : S → 
       hit
       (λ ne. (me.0, keeps, tt, still hist alike E Fit fr kinds s (3 * o) id me.0 k at, (refl, (o, refl, λ e. absurd (ne e)), λ _. refl)))
     where
-      hit : slice_index s.words (3 * o) ≡ next → (w : View I F) × (a : Act S) × Valid s.homes me.1 a × R (stepped s (3 * o) (next + 1) id me.1 w a) × drawn (step slots (3 * o) next (next + 1) none) me (slice_index s.words (3 * o)) (w, carried_after me.1 a)
-      hit e = let v = me.0 in let fit = fitted hist alike E Fit fr kinds s k id v at live in let n = slice_index s.words (3 * o) in let w : View I F = with_turn o (waits n) v in
-          let a = fit.same_kinds in let near' : o < length kinds = subst (λ (ks : List ℕ). o < length ks) a near in
+      hit : slice_index s.words (3 * o) ≡ next
+          → (w : View I F) × (a : Act S) × Valid s.homes me.1 a × R (stepped s (3 * o) (next + 1) id me.1 w a) × drawn (step slots (3 * o) next (next + 1) none) me (slice_index s.words (3 * o)) (w, carried_after me.1 a)
+      hit e = let v = me.0 in let fit = fitted hist alike E Fit fr kinds s k id v at live in
+          let n = slice_index s.words (3 * o) in let w : View I F = with_turn o (waits n) v in
+          let a = fit.same_kinds in
+          let near' : o < length kinds = subst (λ (ks : List ℕ). o < length ks) a near in
           let b = fit.each_turn in let c = k.words in let d = k.count in let old = k.objects o near' in (
             w,
             keeps,
@@ -77,18 +83,23 @@ module _ {S I F : Type 0} (hist : S → List I) (frame : S → F) (kind : S → 
             (refl, (o, refl, λ _. refl), λ ne. absurd (ne e)),
           )
 
-  pub look_allowed : (slots id : ℕ) (me : Me S (View I F)) (o t : ℕ) → o < length me.0.kinds → Live me.0 → turn_at me.0 o ≡ waits t
+  pub look_allowed : (slots id : ℕ) (me : Me S (View I F)) (o t : ℕ) → o < length me.0.kinds → Live me.0
+      → turn_at me.0 o ≡ waits t
       → Allows R slots id me (3 * o + 1) (λ n. n) (looked errands (step slots (3 * o + 1) 0 0 none) me)
   look_allowed slots id me o t near live waiting s k sl at lt = decided (ℕ_discrete (slice_index s.words (3 * o + 1)) t)
     where
       mine : (turn_at me.0 o).ticket ≡ t
       mine = ap (λ (u : Turn). u.ticket) waiting
 
-      decided : Dec (slice_index s.words (3 * o + 1) ≡ t) → (w : View I F) × (a : Act S) × Valid s.homes me.1 a × R (stepped s (3 * o + 1) (slice_index s.words (3 * o + 1)) id me.1 w a)
+      decided : Dec (slice_index s.words (3 * o + 1) ≡ t)
+          → (w : View I F) × (a : Act S) × Valid s.homes me.1 a × R (stepped s (3 * o + 1) (slice_index s.words (3 * o + 1)) id me.1 w a)
           × looked errands (step slots (3 * o + 1) 0 0 none) me (slice_index s.words (3 * o + 1)) (w, carried_after me.1 a)
-      decided (yes e) = let v = me.0 in let fit = fitted hist alike E Fit fr kinds s k id v at live in let n = slice_index s.words (3 * o + 1) in let h = slice_index_or k.histories o [] in
-          let near' : o < length kinds = subst (λ (ks : List ℕ). o < length ks) fit.same_kinds near in let old = k.objects o near' in let b = fit.each_turn in let c = fit.each_seen in
-          let w : View I F = with_turn o (served n) (with_seen o h v) in let l : Lane I = record { turn = served n; seen = h; mine = v.errands } in
+      decided (yes e) = let v = me.0 in let fit = fitted hist alike E Fit fr kinds s k id v at live in
+          let n = slice_index s.words (3 * o + 1) in let h = slice_index_or k.histories o [] in
+          let near' : o < length kinds = subst (λ (ks : List ℕ). o < length ks) fit.same_kinds near in
+          let old = k.objects o near' in let b = fit.each_turn in let c = fit.each_seen in
+          let w : View I F = with_turn o (served n) (with_seen o h v) in
+          let l : Lane I = record { turn = served n; seen = h; mine = v.errands } in
           let kn = known hist alike E Fit fr kinds s k id v at fit o in (
             w,
             keeps,
@@ -106,7 +117,9 @@ module _ {S I F : Type 0} (hist : S → List I) (frame : S → F) (kind : S → 
       decided (no n) = (me.0, keeps, tt, still hist alike E Fit fr kinds s (3 * o + 1) id me.0 k at, (refl, (o, refl, (λ e. absurd (n (e ∙ mine))), λ _. refl)))
 
   -- what the histories are, as far as the view knows
-  possible : (s : State S (View I F)) (k : R s) (id : ℕ) (v : View I F) → get_elem? s.views id ≡ some v → Fitted fr kinds v → (o : ℕ) (h : List I) → slice_index_or k.histories o [] ≡ h → Possible errands fits v o h k.histories
+  possible : (s : State S (View I F)) (k : R s) (id : ℕ) (v : View I F) → get_elem? s.views id ≡ some v
+      → Fitted fr kinds v → (o : ℕ) (h : List I) → slice_index_or k.histories o [] ≡ h
+      → Possible errands fits v o h k.histories
   possible s k id v at fit o h is = record {
     count = k.count ∙ ap (λ (ks : List ℕ). length ks) (sym fit.same_kinds);
     fit = subst (λ (x : Option F). fits_under fits x k.histories) (sym fit.same_frame) k.fit;
@@ -114,14 +127,19 @@ module _ {S I F : Type 0} (hist : S → List I) (frame : S → F) (kind : S → 
     begins = λ p. subst (λ (x : Option F). Knows (errands_under errands x) v.errands (seen_at v p) (slice_index_or k.histories p [])) (sym fit.same_frame) (known hist alike E Fit fr kinds s k id v at fit p);
   }
 
-  pub take_allowed : (slots id : ℕ) (me : Me S (View I F)) (o t : ℕ) → o < length me.0.kinds → Live me.0 → turn_at me.0 o ≡ served t
+  pub take_allowed : (slots id : ℕ) (me : Me S (View I F)) (o t : ℕ) → o < length me.0.kinds → Live me.0
+      → turn_at me.0 o ≡ served t
       → Allows R slots id me (3 * o + 2) (λ n. n) (taken hist frame kind errands fits (step slots (3 * o + 2) 0 0 none) me)
-  take_allowed slots id me o t near live turn s k sl at lt = let v = me.0 in let fit = fitted hist alike E Fit fr kinds s k id v at live in let n = slice_index s.words (3 * o + 2) in let h = slice_index_or k.histories o [] in
-      let near' : o < length kinds = subst (λ (ks : List ℕ). o < length ks) fit.same_kinds near in let old = k.objects o near' in let b = fit.each_turn in let c = k.homes in
+  take_allowed slots id me o t near live turn s k sl at lt = let v = me.0 in
+      let fit = fitted hist alike E Fit fr kinds s k id v at live in let n = slice_index s.words (3 * o + 2) in
+      let h = slice_index_or k.histories o [] in
+      let near' : o < length kinds = subst (λ (ks : List ℕ). o < length ks) fit.same_kinds near in
+      let old = k.objects o near' in let b = fit.each_turn in let c = k.homes in
       let mine = (old.each_lane id (lane o v) (at_map (lane o) s.views id v at)).whole (ap (λ (u : Turn). u.whole) turn) in
       let r = lanes.takes hist (alike o) E (slice_index s.words (3 * o)) (slice_index s.words (3 * o + 1)) n (slice_index_or s.homes o none) h (map (lane o) s.views) id (lane o v) old (at_map (lane o) s.views id v at)
       (ap (λ (u : Turn). u.has) turn, ap (λ (u : Turn). u.whole) turn, ap (λ (u : Turn). u.out) turn) in
-      let x = r.0.0 in let ticket = (turn_at v o).ticket in let w : View I F = with_turn o (borrows ticket) v in (
+      let x = r.0.0 in let ticket = (turn_at v o).ticket in
+      let w : View I F = with_turn o (borrows ticket) v in (
         w,
         takes o x,
         at_or s.homes o (some x) none (omega arith) r.0.1,
@@ -139,13 +157,18 @@ module _ {S I F : Type 0} (hist : S → List I) (frame : S → F) (kind : S → 
         ),
       )
 
-  pub grow_allowed : (slots id : ℕ) (v : View I F) (y : S) (x : I) (o t : ℕ) → o < length v.kinds → Live v → turn_at v o ≡ borrows t → hist y ≡ seen_at v o ++ x ∷ [] → length (hist y) < 2 ^ 64
-      → ((e : ℕ) → Contains (errands_under errands v.frame x) e → Contains v.errands e) → ((hs : List (List I)) → Possible errands fits v o (seen_at v o) hs → fits_under fits v.frame (set hs o (hist y)))
+  pub grow_allowed : (slots id : ℕ) (v : View I F) (y : S) (x : I) (o t : ℕ) → o < length v.kinds → Live v
+      → turn_at v o ≡ borrows t → hist y ≡ seen_at v o ++ x ∷ [] → length (hist y) < 2 ^ 64
+      → ((e : ℕ) → Contains (errands_under errands v.frame x) e → Contains v.errands e)
+      → ((hs : List (List I)) → Possible errands fits v o (seen_at v o) hs → fits_under fits v.frame (set hs o (hist y)))
       → Allows R slots id (v, (o, y) ∷ []) (3 * o + 2) (λ n. (n + 1) % 2 ^ 64) (grown hist (step slots (3 * o + 2) 1 0 none) (v, (o, y) ∷ []))
-  grow_allowed slots id v y x o t near live turn longer room allowed may s k sl at lt = let fit = fitted hist alike E Fit fr kinds s k id v at live in let n = slice_index s.words (3 * o + 2) in let h = slice_index_or k.histories o [] in
-      let near' : o < length kinds = subst (λ (ks : List ℕ). o < length ks) fit.same_kinds near in let old = k.objects o near' in let c = fit.each_seen in let d = k.words in
+  grow_allowed slots id v y x o t near live turn longer room allowed may s k sl at lt = let fit = fitted hist alike E Fit fr kinds s k id v at live in
+      let n = slice_index s.words (3 * o + 2) in let h = slice_index_or k.histories o [] in
+      let near' : o < length kinds = subst (λ (ks : List ℕ). o < length ks) fit.same_kinds near in
+      let old = k.objects o near' in let c = fit.each_seen in let d = k.words in
       let mine = (old.each_lane id (lane o v) (at_map (lane o) s.views id v at)).whole (ap (λ (u : Turn). u.whole) turn) in
-      let h' = hist y in let is : h' ≡ h ++ x ∷ [] = longer ∙ ap (λ (z : List I). z ++ x ∷ []) mine.2 in let w : View I F = with_seen o h' v in let long = old.long in
+      let h' = hist y in let is : h' ≡ h ++ x ∷ [] = longer ∙ ap (λ (z : List I). z ++ x ∷ []) mine.2 in
+      let w : View I F = with_seen o h' v in let long = old.long in
       let len = ap (λ (z : List I). length z) is in let len' = length-append h (x ∷ []) in
       let next : (n + 1) % 2 ^ 64 ≡ n + 1 = mod-eq_of_lt (omega arith) in
       let m = (n + 1) % 2 ^ 64 in (
@@ -163,10 +186,13 @@ module _ {S I F : Type 0} (hist : S → List I) (frame : S → F) (kind : S → 
         (refl, (o, refl, refl)),
       )
 
-  pub pass_allowed : (slots id : ℕ) (v : View I F) (y : S) (o t : ℕ) → o < length v.kinds → Live v → turn_at v o ≡ borrows t → hist y ≡ seen_at v o → IsAs frame kind v.frame (slice_index v.kinds o) y
+  pub pass_allowed : (slots id : ℕ) (v : View I F) (y : S) (o t : ℕ) → o < length v.kinds → Live v
+      → turn_at v o ≡ borrows t → hist y ≡ seen_at v o → IsAs frame kind v.frame (slice_index v.kinds o) y
       → Allows R slots id (v, (o, y) ∷ []) (3 * o + 1) (λ n. (n + 1) % 2 ^ 64) (passed (step slots (3 * o + 1) 1 0 none) (v, (o, y) ∷ []))
-  pass_allowed slots id v y o t near live turn is kept s k sl at lt = let fit = fitted hist alike E Fit fr kinds s k id v at live in let n = slice_index s.words (3 * o + 1) in let h = slice_index_or k.histories o [] in
-      let near' : o < length kinds = subst (λ (ks : List ℕ). o < length ks) fit.same_kinds near in let old = k.objects o near' in let b = fit.each_turn in let c = k.homes in let d = k.words in
+  pass_allowed slots id v y o t near live turn is kept s k sl at lt = let fit = fitted hist alike E Fit fr kinds s k id v at live in
+      let n = slice_index s.words (3 * o + 1) in let h = slice_index_or k.histories o [] in
+      let near' : o < length kinds = subst (λ (ks : List ℕ). o < length ks) fit.same_kinds near in
+      let old = k.objects o near' in let b = fit.each_turn in let c = k.homes in let d = k.words in
       let r = lanes.passes hist (alike o) E (slice_index s.words (3 * o)) n (slice_index s.words (3 * o + 2)) (slice_index_or s.homes o none) h (map (lane o) s.views) id (lane o v) y old (at_map (lane o) s.views id v at) (ap (λ (u : Turn). u.out) turn) is
       (subst (λ (z : Option F × List ℕ). IsAs frame kind z.0 (slice_index z.1 o) y) (λ i. (fit.same_frame i, fit.same_kinds i)) kept) in
       let room = old.room in let low = r.0 in
@@ -184,11 +210,13 @@ module _ {S I F : Type 0} (hist : S → List I) (frame : S → F) (kind : S → 
 
 module _ {S I F : Type 0} where
   -- what a look tells at the object o
-  pub looked_here : (errands : F → I → List ℕ) (slots o t n : ℕ) (m m' : Me S (View I F)) → turn_at m.0 o ≡ waits t → n ≡ t → looked errands (step slots (3 * o + 1) 0 0 none) m n m'
+  pub looked_here : (errands : F → I → List ℕ) (slots o t n : ℕ) (m m' : Me S (View I F))
+      → turn_at m.0 o ≡ waits t → n ≡ t → looked errands (step slots (3 * o + 1) 0 0 none) m n m'
       → (h : List I) × Knows (errands_under errands m.0.frame) m.0.errands (seen_at m.0 o) h × (m' ≡ (with_turn o (served t) (with_seen o h m.0), m.1))
   looked_here errands slots o t n m m' waiting is l = at l.1.0 (omega (arith, l.1.1)) l.1.2
     where
-      at : (p : ℕ) → p ≡ o → (n ≡ (turn_at m.0 p).ticket → (h : List I) × Knows (errands_under errands m.0.frame) m.0.errands (seen_at m.0 p) h × (m'.0 ≡ with_turn p (served n) (with_seen p h m.0)))
+      at : (p : ℕ) → p ≡ o
+          → (n ≡ (turn_at m.0 p).ticket → (h : List I) × Knows (errands_under errands m.0.frame) m.0.errands (seen_at m.0 p) h × (m'.0 ≡ with_turn p (served n) (with_seen p h m.0)))
           → (h : List I) × Knows (errands_under errands m.0.frame) m.0.errands (seen_at m.0 o) h × (m' ≡ (with_turn o (served t) (with_seen o h m.0), m.1))
       at p e hit = let hit' = subst (λ (q : ℕ). n ≡ (turn_at m.0 q).ticket → (h : List I) × Knows (errands_under errands m.0.frame) m.0.errands (seen_at m.0 q) h × (m'.0 ≡ with_turn q (served n) (with_seen q h m.0))) e hit in
           let r = hit' (is ∙ sym (ap (λ (u : Turn). u.ticket) waiting)) in

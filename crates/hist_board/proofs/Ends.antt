@@ -19,7 +19,8 @@ use Rattle.hist_board.proofs.Meeting.{splits, joins}
 use Rattle.hist_board.proofs.Turning.{map_one, length_one}
 
 module _ {A : Type 0} where
-  in_if : (b : Bool) (x : A) (xs : List A) (y : A) → Contains (cond b (x ∷ xs) xs) y → ((b ≡ true) × (x ≡ y)) ⊎ Contains xs y
+  in_if : (b : Bool) (x : A) (xs : List A) (y : A) → Contains (cond b (x ∷ xs) xs) y
+      → ((b ≡ true) × (x ≡ y)) ⊎ Contains xs y
   in_if true x xs y c = ⊎_elim (λ (e : x ≡ y). inl (refl, e)) (λ (d : Contains xs y). inr d) (contains_cons x xs y c)
   in_if false x xs y c = inr c
 
@@ -57,8 +58,10 @@ least_in x (y ∷ ys) =
     (contains_cons (min x y) ys _ (least_in (min x y) ys))
   where
     one : Dec (x ≤ y) → min x y ≡ fold min (min x y) ys → Contains (x ∷ y ∷ ys) (fold min (min x y) ys)
-    one (yes d) e = let m : min x y ≡ x = omega arith in subst (λ (z : ℕ). Contains (x ∷ y ∷ ys) z) (sym m ∙ e) (contains_first x (y ∷ ys))
-    one (no d) e = let m : min x y ≡ y = omega arith in subst (λ (z : ℕ). Contains (x ∷ y ∷ ys) z) (sym m ∙ e) (contains_more x (y ∷ ys) y (contains_first y ys))
+    one (yes d) e = let m : min x y ≡ x = omega arith in
+        subst (λ (z : ℕ). Contains (x ∷ y ∷ ys) z) (sym m ∙ e) (contains_first x (y ∷ ys))
+    one (no d) e = let m : min x y ≡ y = omega arith in
+        subst (λ (z : ℕ). Contains (x ∷ y ∷ ys) z) (sym m ∙ e) (contains_more x (y ∷ ys) y (contains_first y ys))
 
 pub least_sub : (es : List ℕ) (e : ℕ) → Contains (least_errand es) e → Contains es e
 least_sub [] e c = c
@@ -78,11 +81,13 @@ dealt_apart (x ∷ xs) e c d = ⊎_elim
     (λ (is : fold min x xs ≡ e). not_true (e == fold min x xs) ((filtered (λ y. not (y == fold min x xs)) (x ∷ xs) e c).1) (eq-eqb e (fold min x xs) (sym is)))
     (λ (r : Contains [] e). none_in_nil e r) (contains_cons (fold min x xs) [] e d)
 
-pub dealt_all : (es : List ℕ) (e : ℕ) → Contains es e → Contains (other_errands es) e ⊎ Contains (least_errand es) e
+pub dealt_all : (es : List ℕ) (e : ℕ) → Contains es e
+    → Contains (other_errands es) e ⊎ Contains (least_errand es) e
 dealt_all [] e c = inl c
 dealt_all (x ∷ xs) e c = decided (ℕ_discrete e (fold min x xs))
   where
-    decided : Dec (e ≡ fold min x xs) → Contains (other_errands (x ∷ xs)) e ⊎ Contains (least_errand (x ∷ xs)) e
+    decided : Dec (e ≡ fold min x xs)
+        → Contains (other_errands (x ∷ xs)) e ⊎ Contains (least_errand (x ∷ xs)) e
     decided (yes is) = inr (subst (λ (z : ℕ). Contains (fold min x xs ∷ []) z) (sym is) (contains_first (fold min x xs) []))
     decided (no n) = inl (passes_filter (λ y. not (y == fold min x xs)) (x ∷ xs) e c (ap not (ne_eqb e (fold min x xs) n)))
 
@@ -91,7 +96,8 @@ unfolding numbers_from
 in_numbers zero a e lo hi = absurd (omega arith)
 in_numbers (suc n) a e lo hi = decided (ℕ_discrete a e) (λ lo'. in_numbers n (suc a) e lo' (omega arith))
   where
-    decided : Dec (a ≡ e) → (suc a ≤ e → Contains (numbers_from (suc a) n) e) → Contains (a ∷ numbers_from (suc a) n) e
+    decided : Dec (a ≡ e) → (suc a ≤ e → Contains (numbers_from (suc a) n) e)
+        → Contains (a ∷ numbers_from (suc a) n) e
     decided (yes is) _ = subst (λ (z : ℕ). Contains (a ∷ numbers_from (suc a) n) z) is (contains_first a (numbers_from (suc a) n))
     decided (no d) later = contains_more a (numbers_from (suc a) n) e (later (omega arith))
 
@@ -100,13 +106,15 @@ unfolding all_errands
 in_all e lt = in_numbers ERRANDS 0 e (omega arith) (omega arith)
 
 -- two lists of one length that agree everywhere are one
-same_lists : {A : Type 0} (d : A) (xs ys : List A) → length xs ≡ length ys → ((i : ℕ) → i < length xs → get_or xs i d ≡ get_or ys i d) → xs ≡ ys
+same_lists : {A : Type 0} (d : A) (xs ys : List A) → length xs ≡ length ys
+    → ((i : ℕ) → i < length xs → get_or xs i d ≡ get_or ys i d) → xs ≡ ys
 same_lists d [] [] e f = refl
 same_lists d [] (y ∷ ys) e f = absurd (omega arith)
 same_lists d (x ∷ xs) [] e f = absurd (omega arith)
 same_lists d (x ∷ xs) (y ∷ ys) e f = λ i. f 0 (omega arith) i ∷ same_lists d xs ys (omega arith) (λ j lt. f (suc j) (omega arith)) i
 
-pub get_or_map : {A B : Type 0} (f : A → B) (l : List A) (i : ℕ) (a : A) (d : B) → get_elem? l i ≡ some a → get_or (map f l) i d ≡ f a
+pub get_or_map : {A B : Type 0} (f : A → B) (l : List A) (i : ℕ) (a : A) (d : B) → get_elem? l i ≡ some a
+    → get_or (map f l) i d ≡ f a
 get_or_map f [] i a d e = absurd (some-ne-none a (sym e))
 get_or_map f (x ∷ xs) zero a d e = ap f (some-injective x a e)
 get_or_map f (x ∷ xs) (suc i) a d e = get_or_map f xs i a d e
@@ -116,7 +124,8 @@ some_at [] i h = absurd (omega arith)
 some_at (x ∷ xs) zero h = (x, refl)
 some_at (x ∷ xs) (suc i) h = some_at xs i (omega arith)
 
-map_map_one : {A B C : Type 0} (c : C) (f : A → B) (l : List A) (i : ℕ) → get_or (map (λ _. c) (map f l)) i c ≡ c
+map_map_one : {A B C : Type 0} (c : C) (f : A → B) (l : List A) (i : ℕ)
+    → get_or (map (λ _. c) (map f l)) i c ≡ c
 map_map_one c f l i = map_one c (map f l) i
 
 module _ {S I F : Type 0} (hist : S → List I) (frame : S → F) (kind : S → ℕ) (errands : F → I → List ℕ) (fits : F → List (List I) → Type 0) (made : List S) where
@@ -142,9 +151,12 @@ module _ {S I F : Type 0} (hist : S → List I) (frame : S → F) (kind : S → 
   some_object [] e = absurd (off e)
   some_object (x ∷ xs) e = omega arith
 
-  pub recall_allowed : (slots id : ℕ) (me : Me S (View I F)) → Live me.0 → Allows R slots id me 0 (λ n. n) (recalled errands (step slots 0 0 0 none) me)
-  recall_allowed slots id me live s k sl at lt = let v = me.0 in let fit = fitted hist alike E Fit fr kinds s k id v at live in
-      let many = some_object made (ap (λ (f : Option F). is_some f) (sym fit.same_frame) ∙ live) in let old = k.objects 0 many in (
+  pub recall_allowed : (slots id : ℕ) (me : Me S (View I F)) → Live me.0
+      → Allows R slots id me 0 (λ n. n) (recalled errands (step slots 0 0 0 none) me)
+  recall_allowed slots id me live s k sl at lt = let v = me.0 in
+      let fit = fitted hist alike E Fit fr kinds s k id v at live in
+      let many = some_object made (ap (λ (f : Option F). is_some f) (sym fit.same_frame) ∙ live) in
+      let old = k.objects 0 many in (
         told v,
         keeps,
         tt,
@@ -157,7 +169,8 @@ module _ {S I F : Type 0} (hist : S → List I) (frame : S → F) (kind : S → 
         (refl, refl, subst (λ (f : Option F). Told (errands_under errands f) v) (sym fit.same_frame) (all_told s k id v at live)),
       )
     where
-      all_told : (s : State S (View I F)) → R s → (id : ℕ) (v : View I F) → get_elem? s.views id ≡ some v → Live v → Told E v
+      all_told : (s : State S (View I F)) → R s → (id : ℕ) (v : View I F) → get_elem? s.views id ≡ some v
+          → Live v → Told E v
       all_told s k id v at live = ⊎_elim (λ e. absurd (off (ap (λ (u : View I F). is_some u.frame) (sym e) ∙ live))) (λ (r : Fitted fr kinds v × Told E v). r.1) (k.views id v at)
 
   one_view : View I F
@@ -168,7 +181,8 @@ module _ {S I F : Type 0} (hist : S → List I) (frame : S → F) (kind : S → 
   only a b (suc i) e = absurd (some-ne-none b (sym e))
 
   -- a new board keeps the rule
-  pub starts : (words : List ℕ) → OneFrame frame made → FirstWords hist made words → Fit (map hist made) → R (opening words made (first_view hist frame kind made))
+  pub starts : (words : List ℕ) → OneFrame frame made → FirstWords hist made words → Fit (map hist made)
+      → R (opening words made (first_view hist frame kind made))
   starts words one first fit = record {
     histories = map hist made;
     count = length-map made hist ∙ sym (length-map made kind);
@@ -184,8 +198,11 @@ module _ {S I F : Type 0} (hist : S → List I) (frame : S → F) (kind : S → 
     fit = fit;
   }
     where
-      object : (o : ℕ) → o < length kinds → ObjectKept hist (alike o) E (slice_index words (3 * o)) (slice_index words (3 * o + 1)) (slice_index words (3 * o + 2)) (slice_index_or (map some made) o none) (slice_index_or (map hist made) o []) (lane o (first_view hist frame kind made) ∷ [])
-      object o near = let l : Lane I = lane o (first_view hist frame kind made) in let n = length-map made kind in let it = some_at made o (omega arith) in let x = it.0 in let at = it.1 in let w = first.1 o x at in
+      object : (o : ℕ) → o < length kinds
+          → ObjectKept hist (alike o) E (slice_index words (3 * o)) (slice_index words (3 * o + 1)) (slice_index words (3 * o + 2)) (slice_index_or (map some made) o none) (slice_index_or (map hist made) o []) (lane o (first_view hist frame kind made) ∷ [])
+      object o near = let l : Lane I = lane o (first_view hist frame kind made) in
+          let n = length-map made kind in let it = some_at made o (omega arith) in let x = it.0 in
+          let at = it.1 in let w = first.1 o x at in
           let h : slice_index_or (map hist made) o [] ≡ hist x = get_or_map hist made o x [] at in
           let free : turn_at (first_view hist frame kind made) o ≡ no_turn = map_map_one no_turn kind made o in
           let home : slice_index_or (map some made) o none ≡ some x = get_or_map some made o x none at in
@@ -207,18 +224,26 @@ module _ {S I F : Type 0} (hist : S → List I) (frame : S → F) (kind : S → 
           }
 
   -- a view that is served everywhere has all of every history
-  pub finishes : (words : List ℕ) (objects : List S) (id : ℕ) (v : View I F) → Live v → length objects ≡ length v.kinds
-      → ((o : ℕ) → o < length v.kinds → ((turn_at v o).has ≡ true) × ((turn_at v o).whole ≡ true) × ((turn_at v o).out ≡ false)) → Final (Seen R id v) words objects → AllSeen hist frame kind fits v objects
-  finishes words objects id v live long turns end = let s = end.0 in let k = end.1.0 in let at = end.1.1 in let fit = fitted hist alike E Fit fr kinds s k id v at live in
-      let same_kinds = fit.same_kinds in let c = k.count in let d = fit.each_seen in let len = ap (λ (ks : List ℕ). length ks) same_kinds in
+  pub finishes : (words : List ℕ) (objects : List S) (id : ℕ) (v : View I F) → Live v
+      → length objects ≡ length v.kinds
+      → ((o : ℕ) → o < length v.kinds → ((turn_at v o).has ≡ true) × ((turn_at v o).whole ≡ true) × ((turn_at v o).out ≡ false))
+      → Final (Seen R id v) words objects → AllSeen hist frame kind fits v objects
+  finishes words objects id v live long turns end = let s = end.0 in let k = end.1.0 in let at = end.1.1 in
+      let fit = fitted hist alike E Fit fr kinds s k id v at live in
+      let same_kinds = fit.same_kinds in let c = k.count in let d = fit.each_seen in
+      let len = ap (λ (ks : List ℕ). length ks) same_kinds in
       let whole : k.histories ≡ v.seen = same_lists [] k.histories v.seen (c ∙ sym d)
-      (λ o lt. let o_near : o < length kinds = omega arith in let z = turns o (omega arith) in sym (((k.objects o o_near).each_lane id (lane o v) (at_map (lane o) s.views id v at)).whole z.1).2) in
+      (λ o lt. let o_near : o < length kinds = omega arith in let z = turns o (omega arith) in
+      sym (((k.objects o o_near).each_lane id (lane o v) (at_map (lane o) s.views id v at)).whole z.1).2) in
       let each = λ (o : ℕ) (near : o < length kinds). lanes.takes hist (alike o) E (slice_index s.words (3 * o)) (slice_index s.words (3 * o + 1)) (slice_index s.words (3 * o + 2)) (slice_index_or s.homes o none) (slice_index_or k.histories o []) (map (lane o) s.views) id (lane o v) (k.objects o near) (at_map (lane o) s.views id v at)
       (turns o (omega arith)) in
-      let slot = λ (o : ℕ) (near : o < length kinds). let h = k.homes in end.4 o ((each o near).0.0) (at_or s.homes o (some ((each o near).0.0)) none (omega arith) ((each o near).0.1)) in record {
+      let slot = λ (o : ℕ) (near : o < length kinds). let h = k.homes in
+      end.4 o ((each o near).0.0) (at_or s.homes o (some ((each o near).0.0)) none (omega arith) ((each o near).0.1)) in
+      record {
         count = long;
         histories = same_lists [] (map hist objects) v.seen (length-map objects hist ∙ (long ∙ (len ∙ sym d)))
-            (λ o lt. let n = length-map objects hist in let near : o < length kinds = omega arith in let x = (each o near).0.0 in
+            (λ o lt. let n = length-map objects hist in let near : o < length kinds = omega arith in
+            let x = (each o near).0.0 in
             get_or_map hist objects o x [] (slot o near) ∙ ((each o near).0.2 ∙ ap (λ (hs : List (List I)). get_or hs o []) whole));
         alike = λ o x e. let near : o < length kinds = (let w = within objects o x e in omega arith) in
             let is : (each o near).0.0 ≡ x = some-injective _ _ (sym (slot o near) ∙ e) in
@@ -232,14 +257,16 @@ module _ {S I F : Type 0} (hist : S → List I) (frame : S → F) (kind : S → 
   pub copy_allowed : (id : ℕ) (v : View I F) → Live v → v.olds ≡ [] → Splits R id v v (copied v)
   copy_allowed id v live none_old = splits hist alike E Fit fr kinds id v v (copied v) live refl refl refl refl none_old refl (refl, refl) (refl, refl) (λ e c. c) (λ e c. absurd (none_in_nil e c)) (λ e _ d. none_in_nil e d) (λ e c. inl c)
 
-  pub meet_allowed : (id : ℕ) (v : View I F) (other : ℕ) (w : View I F) → Live v → Live w → w.turns ≡ map (λ _. no_turn) w.kinds → Joins R id v other w (joined v w) spent
+  pub meet_allowed : (id : ℕ) (v : View I F) (other : ℕ) (w : View I F) → Live v → Live w
+      → w.turns ≡ map (λ _. no_turn) w.kinds → Joins R id v other w (joined v w) spent
   meet_allowed id v other w live_v live_w free = joins hist alike E Fit fr kinds id v other w live_v live_w free
 
 -- the errands from a on, which are dealt one after another
 low_min : (n a m : ℕ) → m ≤ a → fold min m (numbers_from a n) ≡ m
 unfolding numbers_from
 low_min zero a m h = refl
-low_min (suc n) a m h = let e : min m a ≡ m = omega arith in ap (λ (k : ℕ). fold min k (numbers_from (suc a) n)) e ∙ low_min n (suc a) m (omega arith)
+low_min (suc n) a m h = let e : min m a ≡ m = omega arith in
+    ap (λ (k : ℕ). fold min k (numbers_from (suc a) n)) e ∙ low_min n (suc a) m (omega arith)
 
 above_kept : (n a m : ℕ) → m < a → filter (λ y. not (y == m)) (numbers_from a n) ≡ numbers_from a n
 unfolding numbers_from

@@ -19,7 +19,8 @@ use Rattle.hist_board.proofs.Moves.{fitted, none_told, known}
 use Rattle.hist_board.proofs.Turning.{map_one, length_one}
 
 -- what is in a list with one more at its end is in the list, or it is the last
-snoc_at : {A : Type 0} (l : List A) (a b : A) (j : ℕ) → get_elem? (l ++ a ∷ []) j ≡ some b → (get_elem? l j ≡ some b) ⊎ ((j ≡ length l) × (a ≡ b))
+snoc_at : {A : Type 0} (l : List A) (a b : A) (j : ℕ) → get_elem? (l ++ a ∷ []) j ≡ some b
+    → (get_elem? l j ≡ some b) ⊎ ((j ≡ length l) × (a ≡ b))
 snoc_at [] a b zero e = inr (refl, some-injective a b e)
 snoc_at [] a b (suc j) e = absurd (some-ne-none b (sym e))
 snoc_at (x ∷ xs) a b zero e = inl e
@@ -29,14 +30,19 @@ module _ {S I F : Type 0} (hist : S → List I) (same : ℕ → S → Type 0) (e
   abbrev Rule : State S (View I F) → Type 0
   Rule = Kept hist same errands fits frame kinds
 
-  fewer : (mine less : List ℕ) (seen h : List I) → ((e : ℕ) → Contains less e → Contains mine e) → Knows errands mine seen h → Knows errands less seen h
+  fewer : (mine less : List ℕ) (seen h : List I) → ((e : ℕ) → Contains less e → Contains mine e)
+      → Knows errands mine seen h → Knows errands less seen h
   fewer mine less seen h sub k = record { rest = k.rest; is = k.is; free = λ e x c d. k.free e x (sub e c) d }
 
   -- The errands of a view are dealt to it and to a new one
-  pub splits : (id : ℕ) (v left right : View I F) → Live v → left.seen ≡ v.seen → right.seen ≡ v.seen → left.turns ≡ v.turns → right.turns ≡ map (λ _. no_turn) v.turns → left.olds ≡ [] → right.olds ≡ []
+  pub splits : (id : ℕ) (v left right : View I F) → Live v → left.seen ≡ v.seen → right.seen ≡ v.seen
+      → left.turns ≡ v.turns → right.turns ≡ map (λ _. no_turn) v.turns → left.olds ≡ [] → right.olds ≡ []
       → (left.frame ≡ v.frame) × (left.kinds ≡ v.kinds) → (right.frame ≡ v.frame) × (right.kinds ≡ v.kinds)
-      → ((e : ℕ) → Contains left.errands e → Contains v.errands e) → ((e : ℕ) → Contains right.errands e → Contains v.errands e) → ((e : ℕ) → Contains left.errands e → Contains right.errands e → ⊥)
-      → ((e : ℕ) → Contains v.errands e → Contains left.errands e ⊎ Contains right.errands e) → Splits Rule id v left right
+      → ((e : ℕ) → Contains left.errands e → Contains v.errands e)
+      → ((e : ℕ) → Contains right.errands e → Contains v.errands e)
+      → ((e : ℕ) → Contains left.errands e → Contains right.errands e → ⊥)
+      → ((e : ℕ) → Contains v.errands e → Contains left.errands e ⊎ Contains right.errands e)
+      → Splits Rule id v left right
   splits id v left right live ls rs lt rt lo ro lf rf l_sub r_sub apart all s k at = record {
     histories = k.histories;
     count = k.count;
@@ -63,8 +69,10 @@ module _ {S I F : Type 0} (hist : S → List I) (same : ℕ → S → Type 0) (e
 
       object : (p : ℕ) → p < length kinds
           → ObjectKept hist (same p) errands (slice_index s.words (3 * p)) (slice_index s.words (3 * p + 1)) (slice_index s.words (3 * p + 2)) (slice_index_or s.homes p none) (slice_index_or k.histories p []) (map (lane p) (set s.views id left ++ right ∷ []))
-      object p near = let h = slice_index_or k.histories p [] in let there = at_map (lane p) s.views id v at in let kn = ((k.objects p near).each_lane id (lane p v) there).knows in
-          let seen_l : seen_at left p ≡ seen_at v p = ap (λ (l : List (List I)). get_or l p []) ls in let seen_r : seen_at right p ≡ seen_at v p = ap (λ (l : List (List I)). get_or l p []) rs in
+      object p near = let h = slice_index_or k.histories p [] in let there = at_map (lane p) s.views id v at in
+          let kn = ((k.objects p near).each_lane id (lane p v) there).knows in
+          let seen_l : seen_at left p ≡ seen_at v p = ap (λ (l : List (List I)). get_or l p []) ls in
+          let seen_r : seen_at right p ≡ seen_at v p = ap (λ (l : List (List I)). get_or l p []) rs in
           let one = lanes.relearns hist (same p) errands (slice_index s.words (3 * p)) (slice_index s.words (3 * p + 1)) (slice_index s.words (3 * p + 2)) (slice_index_or s.homes p none) h (map (lane p) s.views) id (lane p v) (lane p left) (k.objects p near) there
           (ap (λ (l : List Turn). get_or l p no_turn) lt) (λ e. seen_l ∙ e) (subst (λ (z : List I). Knows errands left.errands z h) (sym seen_l) (fewer v.errands left.errands (seen_at v p) h l_sub kn)) in
           let two = lanes.comes hist (same p) errands (slice_index s.words (3 * p)) (slice_index s.words (3 * p + 1)) (slice_index s.words (3 * p + 2)) (slice_index_or s.homes p none) h (set (map (lane p) s.views) id (lane p left)) (lane p right) one
@@ -73,14 +81,16 @@ module _ {S I F : Type 0} (hist : S → List I) (same : ℕ → S → Type 0) (e
           (sym (map-append (lane p) (set s.views id left) (right ∷ []) ∙ ap (λ (l : List (Lane I)). l ++ lane p right ∷ []) (map-set (lane p) s.views id left))) two
 
       -- a view of the old ones that holds an errand of v is v
-      mine : (i : ℕ) (x : View I F) (e : ℕ) → get_elem? (set s.views id left) i ≡ some x → Contains x.errands e → Contains v.errands e → i ≡ id
+      mine : (i : ℕ) (x : View I F) (e : ℕ) → get_elem? (set s.views id left) i ≡ some x → Contains x.errands e
+          → Contains v.errands e → i ≡ id
       mine i x e ax hx hv = ⊎_elim (λ (p : (i ≡ id) × (left ≡ x)). p.0) (λ (p : (i ≢ id) × (get_elem? s.views i ≡ some x)). k.apart i id x v e p.1 at hx hv) (at_set s.views id i left x ax)
 
       -- and then it has what is left
       at_id : (i : ℕ) (x : View I F) → get_elem? (set s.views id left) i ≡ some x → i ≡ id → left ≡ x
       at_id i x ax e = ⊎_elim (λ (p : (i ≡ id) × (left ≡ x)). p.1) (λ (p : (i ≢ id) × (get_elem? s.views i ≡ some x)). absurd (p.0 e)) (at_set s.views id i left x ax)
 
-      old : (i j : ℕ) (x y : View I F) (e : ℕ) → get_elem? (set s.views id left) i ≡ some x → get_elem? (set s.views id left) j ≡ some y → Contains x.errands e → Contains y.errands e → i ≡ j
+      old : (i j : ℕ) (x y : View I F) (e : ℕ) → get_elem? (set s.views id left) i ≡ some x
+          → get_elem? (set s.views id left) j ≡ some y → Contains x.errands e → Contains y.errands e → i ≡ j
       old i j x y e ax ay hx hy = ⊎_elim
           (λ (p : (i ≡ id) × (left ≡ x)). p.0 ∙ sym (mine j y e ay hy (l_sub e (subst (λ (z : View I F). Contains z.errands e) (sym p.1) hx))))
           (λ (p : (i ≢ id) × (get_elem? s.views i ≡ some x)). ⊎_elim
@@ -89,20 +99,26 @@ module _ {S I F : Type 0} (hist : S → List I) (same : ℕ → S → Type 0) (e
           (at_set s.views id j left y ay))
           (at_set s.views id i left x ax)
 
-      crossed : (i : ℕ) (x y : View I F) (e : ℕ) → get_elem? (set s.views id left) i ≡ some x → right ≡ y → Contains x.errands e → Contains y.errands e → ⊥
+      crossed : (i : ℕ) (x y : View I F) (e : ℕ) → get_elem? (set s.views id left) i ≡ some x → right ≡ y
+          → Contains x.errands e → Contains y.errands e → ⊥
       crossed i x y e ax ry hx hy = let hr : Contains right.errands e = subst (λ (z : View I F). Contains z.errands e) (sym ry) hy in
-          let is = at_id i x ax (mine i x e ax hx (r_sub e hr)) in apart e (subst (λ (z : View I F). Contains z.errands e) (sym is) hx) hr
+          let is = at_id i x ax (mine i x e ax hx (r_sub e hr)) in
+          apart e (subst (λ (z : View I F). Contains z.errands e) (sym is) hx) hr
 
-      alone : (i j : ℕ) (x y : View I F) (e : ℕ) → get_elem? (set s.views id left ++ right ∷ []) i ≡ some x → get_elem? (set s.views id left ++ right ∷ []) j ≡ some y → Contains x.errands e → Contains y.errands e → i ≡ j
+      alone : (i j : ℕ) (x y : View I F) (e : ℕ) → get_elem? (set s.views id left ++ right ∷ []) i ≡ some x
+          → get_elem? (set s.views id left ++ right ∷ []) j ≡ some y → Contains x.errands e
+          → Contains y.errands e → i ≡ j
       alone i j x y e ax ay hx hy = ⊎_elim
           (λ (p : get_elem? (set s.views id left) i ≡ some x). ⊎_elim (λ (q : get_elem? (set s.views id left) j ≡ some y). old i j x y e p q hx hy) (λ (q : (j ≡ length (set s.views id left)) × (right ≡ y)). absurd (crossed i x y e p q.1 hx hy)) (snoc_at (set s.views id left) right y j ay))
           (λ (p : (i ≡ length (set s.views id left)) × (right ≡ x)). ⊎_elim (λ (q : get_elem? (set s.views id left) j ≡ some y). absurd (crossed j y x e q p.1 hy hx)) (λ (q : (j ≡ length (set s.views id left)) × (right ≡ y)). p.0 ∙ sym q.0) (snoc_at (set s.views id left) right y j ay))
           (snoc_at (set s.views id left) right x i ax)
 
-      holder : (e : ℕ) → (i : ℕ) × (u : View I F) × (get_elem? s.views i ≡ some u) × Contains u.errands e → (i : ℕ) × (u : View I F) × (get_elem? (set s.views id left ++ right ∷ []) i ≡ some u) × Contains u.errands e
+      holder : (e : ℕ) → (i : ℕ) × (u : View I F) × (get_elem? s.views i ≡ some u) × Contains u.errands e
+          → (i : ℕ) × (u : View I F) × (get_elem? (set s.views id left ++ right ∷ []) i ≡ some u) × Contains u.errands e
       holder e x = found (ℕ_discrete x.0 id)
         where
-          found : Dec (x.0 ≡ id) → (i : ℕ) × (u : View I F) × (get_elem? (set s.views id left ++ right ∷ []) i ≡ some u) × Contains u.errands e
+          found : Dec (x.0 ≡ id)
+              → (i : ℕ) × (u : View I F) × (get_elem? (set s.views id left ++ right ∷ []) i ≡ some u) × Contains u.errands e
           found (yes y) = let both : x.1 ≡ v = same_there s.views id x.1 v (subst (λ (j : ℕ). get_elem? s.views j ≡ some x.1) y x.2) at in
               ⊎_elim
               (λ (c : Contains left.errands e). (id, left, at_longer (set s.views id left) (right ∷ []) id left (here s.views id v left at), c))
@@ -118,10 +134,12 @@ lt_no a b h = grind (arith, nat_tests)
 
 module _ {I : Type 0} where
   -- of two beginnings of one list the shorter begins the longer
-  prefix_split : (xs rx ys ry : List I) → xs ++ rx ≡ ys ++ ry → length xs ≤ length ys → (mid : List I) × (ys ≡ xs ++ mid) × (rx ≡ mid ++ ry)
+  prefix_split : (xs rx ys ry : List I) → xs ++ rx ≡ ys ++ ry → length xs ≤ length ys
+      → (mid : List I) × (ys ≡ xs ++ mid) × (rx ≡ mid ++ ry)
   prefix_split [] rx ys ry e h = (ys, refl, e)
   prefix_split (x ∷ xs) rx [] ry e h = absurd (omega arith)
-  prefix_split (x ∷ xs) rx (y ∷ ys) ry e h = let same : x ≡ y = cc in let tail : xs ++ rx ≡ ys ++ ry = cc in let r = prefix_split xs rx ys ry tail (omega arith) in
+  prefix_split (x ∷ xs) rx (y ∷ ys) ry e h = let same : x ≡ y = cc in let tail : xs ++ rx ≡ ys ++ ry = cc in
+      let r = prefix_split xs rx ys ry tail (omega arith) in
       (r.0, (λ i. sym same i ∷ r.1 i), r.2)
 
   nil_of : (l : List I) → length l ≡ 0 → l ≡ []
@@ -134,7 +152,8 @@ module _ {I : Type 0} where
   longer_left : (xs ys : List I) → length ys ≤ length xs → longer xs ys ≡ xs
   longer_left xs ys h = ap (λ (b : Bool). if b then ys else xs) (lt_no (length xs) (length ys) h)
 
-  longer_at : (xs ys : List (List I)) (p : ℕ) → length xs ≡ length ys → get_or (longer_each xs ys) p [] ≡ longer (get_or xs p []) (get_or ys p [])
+  longer_at : (xs ys : List (List I)) (p : ℕ) → length xs ≡ length ys
+      → get_or (longer_each xs ys) p [] ≡ longer (get_or xs p []) (get_or ys p [])
   longer_at [] [] p e = refl
   longer_at [] (y ∷ ys) p e = absurd (omega arith)
   longer_at (x ∷ xs) [] p e = absurd (omega arith)
@@ -184,7 +203,8 @@ module _ {I : Type 0} where
       first = lanes.knows_all errands ma a;
       second = record { rest = r.0; is = r.1; free = λ e x c d. kb.free e x c (subst (λ (l : List I). Contains l x) (sym r.2) (contains_left r.0 ka.rest x d)) };
       first_whole = λ e. e;
-      second_whole = λ e. let l = ap (λ (z : List I). length z) e in let m = ap (λ (l : List I). length l) ka.is in let f = length-append a ka.rest in
+      second_whole = λ e. let l = ap (λ (z : List I). length z) e in
+          let m = ap (λ (l : List I). length l) ka.is in let f = length-append a ka.rest in
           sym (ka.is ∙ (ap (λ (l : List I). a ++ l) (nil_of ka.rest (omega arith)) ∙ lanes.append_none a));
     }
 
@@ -196,7 +216,9 @@ module _ {I : Type 0} where
         decided (no n) = subst (λ (c : List I). Both errands ma mb a b c h) (sym (longer_left a b (omega arith))) (later_a (omega arith))
 
 module _ {S I F : Type 0} (hist : S → List I) (same : ℕ → S → Type 0) (errands : I → List ℕ) (fits : List (List I) → Type 0) (frame : Option F) (kinds : List ℕ) where
-  pub joins : (id : ℕ) (v : View I F) (other : ℕ) (w : View I F) → Live v → Live w → w.turns ≡ map (λ _. no_turn) w.kinds → Joins (Kept hist same errands fits frame kinds) id v other w (joined v w) spent
+  pub joins : (id : ℕ) (v : View I F) (other : ℕ) (w : View I F) → Live v → Live w
+      → w.turns ≡ map (λ _. no_turn) w.kinds
+      → Joins (Kept hist same errands fits frame kinds) id v other w (joined v w) spent
   joins id v other w live_v live_w free s k at ne at' = record {
     histories = k.histories;
     count = k.count;
@@ -234,7 +256,8 @@ module _ {S I F : Type 0} (hist : S → List I) (same : ℕ → S → Type 0) (e
       seen_both : (p : ℕ) → seen_at (joined v w) p ≡ longer (seen_at v p) (seen_at w p)
       seen_both p = longer_at v.seen w.seen p long
 
-      meet : (p : ℕ) → Both errands v.errands w.errands (seen_at v p) (seen_at w p) (seen_at (joined v w) p) (slice_index_or k.histories p [])
+      meet : (p : ℕ)
+          → Both errands v.errands w.errands (seen_at v p) (seen_at w p) (seen_at (joined v w) p) (slice_index_or k.histories p [])
       meet p = subst (λ (c : List I). Both errands v.errands w.errands (seen_at v p) (seen_at w p) c (slice_index_or k.histories p [])) (sym (seen_both p))
           (meets errands v.errands w.errands (seen_at v p) (seen_at w p) (slice_index_or k.histories p []) (known hist same errands fits frame kinds s k id v at fit_v p) (known hist same errands fits frame kinds s k other w at_w fit_w p))
 
@@ -248,7 +271,8 @@ module _ {S I F : Type 0} (hist : S → List I) (same : ℕ → S → Type 0) (e
 
       object : (p : ℕ) → p < length kinds
           → ObjectKept hist (same p) errands (slice_index s.words (3 * p)) (slice_index s.words (3 * p + 1)) (slice_index s.words (3 * p + 2)) (slice_index_or s.homes p none) (slice_index_or k.histories p []) (map (lane p) (set (set s.views id (joined v w)) other spent))
-      object p near = let h = slice_index_or k.histories p [] in let ls = map (lane p) s.views in let there = at_map (lane p) s.views id v at in let m = meet p in
+      object p near = let h = slice_index_or k.histories p [] in let ls = map (lane p) s.views in
+          let there = at_map (lane p) s.views id v at in let m = meet p in
           let one = lanes.relearns hist (same p) errands (slice_index s.words (3 * p)) (slice_index s.words (3 * p + 1)) (slice_index s.words (3 * p + 2)) (slice_index_or s.homes p none) h ls id (lane p v) (lane p (joined v w)) (k.objects p near) there refl m.first_whole m.all in
           let is_set : map (lane p) (set s.views id (joined v w)) ≡ set ls id (lane p (joined v w)) = map-set (lane p) s.views id (joined v w) in
           let two = lanes.spends hist (same p) errands (slice_index s.words (3 * p)) (slice_index s.words (3 * p + 1)) (slice_index s.words (3 * p + 2)) (slice_index_or s.homes p none) h (set ls id (lane p (joined v w))) other (lane p w) id (lane p (joined v w)) one
@@ -256,7 +280,10 @@ module _ {S I F : Type 0} (hist : S → List I) (same : ℕ → S → Type 0) (e
           subst (λ (l : List (Lane I)). ObjectKept hist (same p) errands (slice_index s.words (3 * p)) (slice_index s.words (3 * p + 1)) (slice_index s.words (3 * p + 2)) (slice_index_or s.homes p none) h l)
           (sym (map-set (lane p) (set s.views id (joined v w)) other spent ∙ ap (λ (l : List (Lane I)). set l other (lane {F = F} p spent)) is_set)) two
 
-      old : (i j : ℕ) (x y : View I F) (e : ℕ) → i ≢ other → j ≢ other → get_elem? (set s.views id (joined v w)) i ≡ some x → get_elem? (set s.views id (joined v w)) j ≡ some y → Contains x.errands e → Contains y.errands e → i ≡ j
+      old : (i j : ℕ) (x y : View I F) (e : ℕ) → i ≢ other → j ≢ other
+          → get_elem? (set s.views id (joined v w)) i ≡ some x
+          → get_elem? (set s.views id (joined v w)) j ≡ some y → Contains x.errands e → Contains y.errands e
+          → i ≡ j
       old i j x y e ni nj ax ay hx hy = ⊎_elim
           (λ (p : (i ≡ id) × (joined v w ≡ x)). ⊎_elim
           (λ (q : (j ≡ id) × (joined v w ≡ y)). p.0 ∙ sym q.0)
@@ -268,31 +295,42 @@ module _ {S I F : Type 0} (hist : S → List I) (same : ℕ → S → Type 0) (e
           (at_set s.views id j (joined v w) y ay))
           (at_set s.views id i (joined v w) x ax)
         where
-          with_both : (j : ℕ) (y : View I F) (e : ℕ) → j ≢ other → get_elem? s.views j ≡ some y → Contains y.errands e → Contains (v.errands ++ w.errands) e → id ≡ j
+          with_both : (j : ℕ) (y : View I F) (e : ℕ) → j ≢ other → get_elem? s.views j ≡ some y
+              → Contains y.errands e → Contains (v.errands ++ w.errands) e → id ≡ j
           with_both j y e nj ay hy c = ⊎_elim (λ (d : Contains v.errands e). k.apart id j v y e at ay d hy) (λ (d : Contains w.errands e). absurd (nj (sym (k.apart other j w y e at_w ay d hy)))) (contains_append v.errands w.errands e c)
 
-      holder : (e : ℕ) → (i : ℕ) × (u : View I F) × (get_elem? s.views i ≡ some u) × Contains u.errands e → (i : ℕ) × (u : View I F) × (get_elem? (set (set s.views id (joined v w)) other spent) i ≡ some u) × Contains u.errands e
+      holder : (e : ℕ) → (i : ℕ) × (u : View I F) × (get_elem? s.views i ≡ some u) × Contains u.errands e
+          → (i : ℕ) × (u : View I F) × (get_elem? (set (set s.views id (joined v w)) other spent) i ≡ some u) × Contains u.errands e
       holder e x = found (ℕ_discrete x.0 other) (ℕ_discrete x.0 id)
         where
           there : get_elem? (set (set s.views id (joined v w)) other spent) id ≡ some (joined v w)
           there = set_else (set s.views id (joined v w)) other id spent (λ e. ne (sym e)) ∙ here s.views id v (joined v w) at
 
-          found : Dec (x.0 ≡ other) → Dec (x.0 ≡ id) → (i : ℕ) × (u : View I F) × (get_elem? (set (set s.views id (joined v w)) other spent) i ≡ some u) × Contains u.errands e
-          found (yes y) _ = let is : x.1 ≡ w = same_there s.views other x.1 w (subst (λ (j : ℕ). get_elem? s.views j ≡ some x.1) y x.2) at_w in (id, joined v w, there, contains_right v.errands w.errands e (subst (λ (z : View I F). Contains z.errands e) is x.3))
-          found (no n) (yes y) = let is : x.1 ≡ v = same_there s.views id x.1 v (subst (λ (j : ℕ). get_elem? s.views j ≡ some x.1) y x.2) at in (id, joined v w, there, contains_left v.errands w.errands e (subst (λ (z : View I F). Contains z.errands e) is x.3))
+          found : Dec (x.0 ≡ other) → Dec (x.0 ≡ id)
+              → (i : ℕ) × (u : View I F) × (get_elem? (set (set s.views id (joined v w)) other spent) i ≡ some u) × Contains u.errands e
+          found (yes y) _ = let is : x.1 ≡ w = same_there s.views other x.1 w (subst (λ (j : ℕ). get_elem? s.views j ≡ some x.1) y x.2) at_w in
+              (id, joined v w, there, contains_right v.errands w.errands e (subst (λ (z : View I F). Contains z.errands e) is x.3))
+          found (no n) (yes y) = let is : x.1 ≡ v = same_there s.views id x.1 v (subst (λ (j : ℕ). get_elem? s.views j ≡ some x.1) y x.2) at in
+              (id, joined v w, there, contains_left v.errands w.errands e (subst (λ (z : View I F). Contains z.errands e) is x.3))
           found (no n) (no m) = (x.0, x.1, set_else (set s.views id (joined v w)) other x.0 spent n ∙ (set_else s.views id x.0 (joined v w) m ∙ x.2), x.3)
 
 module _ {S I F : Type 0} where
-  same_many : (words words' : ℕ) (m n : Me S (View I F)) → AtRest words m → AtRest words' n → words ≡ words' → length m.0.kinds ≡ length n.0.kinds
+  same_many : (words words' : ℕ) (m n : Me S (View I F)) → AtRest words m → AtRest words' n → words ≡ words'
+      → length m.0.kinds ≡ length n.0.kinds
   same_many words words' m n a b e = let x = a.words_are in let y = b.words_are in omega arith
 
-  pub join_counts : (words words' : ℕ) (m n m' : Me S (View I F)) (ls ms ns : List ℕ) → AtRest words m → AtRest words' n → words ≡ words' → Counts ls m.0 → Counts ms n.0 → ((o : ℕ) → o < 17 → slice_index ns o ≡ max (slice_index ls o) (slice_index ms o)) → m'.0 ≡ told (joined m.0 n.0) → Counts ns m'.0
+  pub join_counts : (words words' : ℕ) (m n m' : Me S (View I F)) (ls ms ns : List ℕ) → AtRest words m
+      → AtRest words' n → words ≡ words' → Counts ls m.0 → Counts ms n.0
+      → ((o : ℕ) → o < 17 → slice_index ns o ≡ max (slice_index ls o) (slice_index ms o))
+      → m'.0 ≡ told (joined m.0 n.0) → Counts ns m'.0
   join_counts words words' m n m' ls ms ns a b e c d f is = subst (λ (v : View I F). Counts ns v) (sym is) (λ o lt.
       let few = a.few in let k = same_many words words' m n a b e in let p = a.places in let q = b.places in
-      let x : slice_index ls o ≡ length (seen_at m.0 o) = c o lt in let y : slice_index ms o ≡ length (seen_at n.0 o) = d o (omega arith) in
+      let x : slice_index ls o ≡ length (seen_at m.0 o) = c o lt in
+      let y : slice_index ms o ≡ length (seen_at n.0 o) = d o (omega arith) in
       f o (omega arith) ∙ ((λ i. max (x i) (y i)) ∙ (sym (length_of_longer (seen_at m.0 o) (seen_at n.0 o)) ∙ ap (λ (l : List I). length l) (sym (longer_at m.0.seen n.0.seen o (omega arith))))))
 
-  pub join_rests : (words words' : ℕ) (m m1 m2 : Me S (View I F)) (w : View I F) → AtRest words m → words ≡ words' → m1 ≡ (joined m.0 w, m.1) → m2 ≡ (told m1.0, m1.1) → AtRest words' m2
+  pub join_rests : (words words' : ℕ) (m m1 m2 : Me S (View I F)) (w : View I F) → AtRest words m
+      → words ≡ words' → m1 ≡ (joined m.0 w, m.1) → m2 ≡ (told m1.0, m1.1) → AtRest words' m2
   join_rests words words' m m1 m2 w r e is is' = subst (λ (x : Me S (View I F)). AtRest words' x) (sym (is' ∙ ap (λ (x : Me S (View I F)). (told x.0, x.1)) is)) record {
     words_are = sym e ∙ r.words_are;
     none_out = r.none_out;
@@ -306,8 +344,10 @@ module _ {S I F : Type 0} where
 
   -- what a join tells
   -- what is newly seen by a join has no entry of an errand of either pass
-  pub join_tells : (errands : F → I → List ℕ) (v w : View I F) (m1 m2 : Me S (View I F)) (c : List (ℕ × S)) → w.frame ≡ v.frame → w.kinds ≡ v.kinds
-      → m1 ≡ (joined v w, c) → m2.0 ≡ told m1.0 → Told (errands_under errands m1.0.frame) m1.0 → SeesOn errands v m2.0 × SeesOn errands w m2.0
+  pub join_tells : (errands : F → I → List ℕ) (v w : View I F) (m1 m2 : Me S (View I F)) (c : List (ℕ × S))
+      → w.frame ≡ v.frame → w.kinds ≡ v.kinds
+      → m1 ≡ (joined v w, c) → m2.0 ≡ told m1.0 → Told (errands_under errands m1.0.frame) m1.0
+      → SeesOn errands v m2.0 × SeesOn errands w m2.0
   join_tells errands v w m1 m2 c same_frame same_kinds e f t = let t' = subst (λ (m : Me S (View I F)). Told (errands_under errands m.0.frame) m.0) e t in
       let is : m2.0 ≡ told (joined v w) = f ∙ ap (λ (m : Me S (View I F)). told m.0) e in
       subst (λ (u : View I F). SeesOn errands v u × SeesOn errands w u) (sym is) (

@@ -25,13 +25,15 @@ past [] i d h = refl
 past (x ∷ xs) zero d h = absurd (omega arith)
 past (x ∷ xs) (suc i) d h = past xs i d (omega arith)
 
-pub at_or : {A : Type 0} (l : List A) (i : ℕ) (a d : A) → i < length l → get_or l i d ≡ a → get_elem? l i ≡ some a
+pub at_or : {A : Type 0} (l : List A) (i : ℕ) (a d : A) → i < length l → get_or l i d ≡ a
+    → get_elem? l i ≡ some a
 at_or [] i a d h e = absurd (omega arith)
 at_or (x ∷ xs) zero a d h e = ap some e
 at_or (x ∷ xs) (suc i) a d h e = at_or xs i a d (omega arith) e
 
 -- what the mapped list has comes from the list
-pub map_at : {A B : Type 0} (f : A → B) (l : List A) (i : ℕ) (b : B) → get_elem? (map f l) i ≡ some b → (a : A) × (get_elem? l i ≡ some a) × (f a ≡ b)
+pub map_at : {A B : Type 0} (f : A → B) (l : List A) (i : ℕ) (b : B) → get_elem? (map f l) i ≡ some b
+    → (a : A) × (get_elem? l i ≡ some a) × (f a ≡ b)
 map_at f [] i b e = absurd (some-ne-none b (sym e))
 map_at f (x ∷ xs) zero b e = (x, refl, some-injective (f x) b e)
 map_at f (x ∷ xs) (suc i) b e = map_at f xs i b e
@@ -44,21 +46,29 @@ module _ {S I F : Type 0} (hist : S → List I) (same : ℕ → S → Type 0) (e
   none_told v e k a at = absurd (some-ne-none a (sym at ∙ ap (λ (l : List (Past I)). get_elem? l k) e))
 
   -- a view that is not spent has a place for each object
-  pub fitted : (s : State S (View I F)) → Rule s → (id : ℕ) (v : View I F) → get_elem? s.views id ≡ some v → Live v → Fitted frame kinds v
+  pub fitted : (s : State S (View I F)) → Rule s → (id : ℕ) (v : View I F) → get_elem? s.views id ≡ some v
+      → Live v → Fitted frame kinds v
   fitted s k id v at live = ⊎_elim (λ (e : v ≡ spent). absurd (off (ap (λ (u : View I F). is_some u.frame) (sym e) ∙ live))) (λ (r : Fitted frame kinds v × Told errands v). r.0) (k.views id v at)
 
-  object_by : (o : ℕ) (t t' s s' n n' : ℕ) (home home' : maybe.Option S) (h h' : List I) (ls ls' : List (Lane I)) → t ≡ t' → s ≡ s' → n ≡ n' → home ≡ home' → h ≡ h' → ls ≡ ls'
-      → ObjectKept hist (same o) errands t s n home h ls → ObjectKept hist (same o) errands t' s' n' home' h' ls'
+  object_by : (o : ℕ) (t t' s s' n n' : ℕ) (home home' : maybe.Option S) (h h' : List I) (ls ls' : List (Lane I))
+      → t ≡ t' → s ≡ s' → n ≡ n' → home ≡ home' → h ≡ h' → ls ≡ ls'
+      → ObjectKept hist (same o) errands t s n home h ls
+      → ObjectKept hist (same o) errands t' s' n' home' h' ls'
   object_by o t t' s s' n n' home home' h h' ls ls' a b c d e f =
       subst (λ (x : ℕ × ℕ × ℕ × maybe.Option S × List I × List (Lane I)). ObjectKept hist (same o) errands x.0 x.1 x.2 x.3 x.4 x.5) (λ i. (a i, b i, c i, d i, e i, f i))
 
   -- One object changes, and one view in what it has of this object
   pub moved : (s : State S (View I F)) (k : Rule s) (o id : ℕ) (v w : View I F) (words : List ℕ) (homes : List (maybe.Option S)) (l : Lane I) (t' s' n' : ℕ) (home' : maybe.Option S) (h' : List I)
-      → o < length kinds → get_elem? s.views id ≡ some v → Fitted frame kinds w → w.olds ≡ [] → w.errands ≡ v.errands → ((p : ℕ) → p ≢ o → lane p w ≡ lane p v)
-      → length words ≡ length s.words → ((i : ℕ) → i ≢ 3 * o → i ≢ 3 * o + 1 → i ≢ 3 * o + 2 → slice_index words i ≡ slice_index s.words i)
-      → length homes ≡ length s.homes → ((p : ℕ) → p ≢ o → slice_index_or homes p none ≡ slice_index_or s.homes p none)
-      → lane o w ≡ l → slice_index words (3 * o) ≡ t' → slice_index words (3 * o + 1) ≡ s' → slice_index words (3 * o + 2) ≡ n' → slice_index_or homes o none ≡ home'
-      → ObjectKept hist (same o) errands t' s' n' home' h' (set (map (lane o) s.views) id l) → fits (set k.histories o h')
+      → o < length kinds → get_elem? s.views id ≡ some v → Fitted frame kinds w → w.olds ≡ []
+      → w.errands ≡ v.errands → ((p : ℕ) → p ≢ o → lane p w ≡ lane p v)
+      → length words ≡ length s.words
+      → ((i : ℕ) → i ≢ 3 * o → i ≢ 3 * o + 1 → i ≢ 3 * o + 2 → slice_index words i ≡ slice_index s.words i)
+      → length homes ≡ length s.homes
+      → ((p : ℕ) → p ≢ o → slice_index_or homes p none ≡ slice_index_or s.homes p none)
+      → lane o w ≡ l → slice_index words (3 * o) ≡ t' → slice_index words (3 * o + 1) ≡ s'
+      → slice_index words (3 * o + 2) ≡ n' → slice_index_or homes o none ≡ home'
+      → ObjectKept hist (same o) errands t' s' n' home' h' (set (map (lane o) s.views) id l)
+      → fits (set k.histories o h')
       → Rule record { words = words; homes = homes; views = set s.views id w }
   moved s k o id v w words homes l t' s' n' home' h' near at fit_w no_olds same_errands others long words_else long_homes homes_else is a b c d new fit = record {
     histories = set k.histories o h';
@@ -85,10 +95,12 @@ module _ {S I F : Type 0} (hist : S → List I) (same : ℕ → S → Type 0) (e
       mine : (e : ℕ) (x : View I F) → w ≡ x → Contains x.errands e → Contains v.errands e
       mine e x is has = subst (λ (es : List ℕ). Contains es e) same_errands (subst (λ (u : View I F). Contains u.errands e) (sym is) has)
 
-      holder : (e : ℕ) → (i : ℕ) × (u : View I F) × (get_elem? s.views i ≡ some u) × Contains u.errands e → (i : ℕ) × (u : View I F) × (get_elem? (set s.views id w) i ≡ some u) × Contains u.errands e
+      holder : (e : ℕ) → (i : ℕ) × (u : View I F) × (get_elem? s.views i ≡ some u) × Contains u.errands e
+          → (i : ℕ) × (u : View I F) × (get_elem? (set s.views id w) i ≡ some u) × Contains u.errands e
       holder e x = found (ℕ_discrete x.0 id)
         where
-          found : Dec (x.0 ≡ id) → (i : ℕ) × (u : View I F) × (get_elem? (set s.views id w) i ≡ some u) × Contains u.errands e
+          found : Dec (x.0 ≡ id)
+              → (i : ℕ) × (u : View I F) × (get_elem? (set s.views id w) i ≡ some u) × Contains u.errands e
           found (yes y) = let both : x.1 ≡ v = same_there s.views id x.1 v (subst (λ (j : ℕ). get_elem? s.views j ≡ some x.1) y x.2) at in
               (id, w, here s.views id v w at, subst (λ (es : List ℕ). Contains es e) (ap (λ (u : View I F). u.errands) both ∙ sym same_errands) x.3)
           found (no n) = (x.0, x.1, set_else s.views id x.0 w n ∙ x.2, x.3)
@@ -108,17 +120,23 @@ module _ {S I F : Type 0} (hist : S → List I) (same : ℕ → S → Type 0) (e
           (k.objects p lt)
 
   -- nothing changes
-  pub still : (s : State S (View I F)) (i id : ℕ) (v : View I F) → Rule s → get_elem? s.views id ≡ some v → Rule record { words = set s.words i (slice_index s.words i); homes = s.homes; views = set s.views id v }
+  pub still : (s : State S (View I F)) (i id : ℕ) (v : View I F) → Rule s → get_elem? s.views id ≡ some v
+      → Rule record { words = set s.words i (slice_index s.words i); homes = s.homes; views = set s.views id v }
   still s i id v k at = subst (λ (x : List ℕ × List (View I F)). Rule record { words = x.0; homes = s.homes; views = x.1 }) (λ j. (sym (set_same s.words i 0) j, sym (set_again s.views id v at) j)) k
 
-  pub same_words : (s : State S (View I F)) (i : ℕ) (homes : List (maybe.Option S)) (views : List (View I F)) → Rule record { words = s.words; homes = homes; views = views } → Rule record { words = set s.words i (slice_index s.words i); homes = homes; views = views }
+  pub same_words : (s : State S (View I F)) (i : ℕ) (homes : List (maybe.Option S)) (views : List (View I F))
+      → Rule record { words = s.words; homes = homes; views = views }
+      → Rule record { words = set s.words i (slice_index s.words i); homes = homes; views = views }
   same_words s i homes views k = subst (λ (x : List ℕ). Rule record { words = x; homes = homes; views = views }) (sym (set_same s.words i 0)) k
 
   -- what a view knows of each history
-  pub known : (s : State S (View I F)) (k : Rule s) (id : ℕ) (v : View I F) → get_elem? s.views id ≡ some v → Fitted frame kinds v → (p : ℕ) → Knows errands v.errands (seen_at v p) (slice_index_or k.histories p [])
+  pub known : (s : State S (View I F)) (k : Rule s) (id : ℕ) (v : View I F) → get_elem? s.views id ≡ some v
+      → Fitted frame kinds v → (p : ℕ)
+      → Knows errands v.errands (seen_at v p) (slice_index_or k.histories p [])
   known s k id v at fit p = here_or (dec_le (suc p) (length kinds))
     where
-      here_or : Dec (suc p ≤ length kinds) → Knows errands v.errands (seen_at v p) (slice_index_or k.histories p [])
+      here_or : Dec (suc p ≤ length kinds)
+          → Knows errands v.errands (seen_at v p) (slice_index_or k.histories p [])
       here_or (yes y) = ((k.objects p (omega arith)).each_lane id (lane p v) (at_map (lane p) s.views id v at)).knows
       here_or (no n) = let a = fit.each_seen in let b = k.count in
           subst (λ (x : List I × List I). Knows errands v.errands x.0 x.1) (λ i. (sym (past v.seen p [] (omega arith)) i, sym (past k.histories p [] (omega arith)) i)) (lanes.knows_all errands v.errands [])

@@ -5,7 +5,8 @@ use lib.ListN.{get_elem?}
 use Rattle.hist_board.proofs.closing.unload.Goals as goal
 
 pub loop-i-preserved : goal.loop-i-preserved
-loop-i-preserved g c = let i = c.loop-i.invariant in let t = c.take.ensures in let p = c.push_reserved.ensures in
+loop-i-preserved g c = let i = c.loop-i.invariant in let t = c.take.ensures in
+    let p = c.push_reserved.ensures in
     let n = slots_counts c.loop-i.closed.slots in
     let f = emptied (slots_filled c.loop-i.closed.slots) c.loop-i.i (slots_len c.loop-i.closed.slots) (omega arith) i.0 i.1 in (
       (λ k lo hi. ap (λ (fs : List Bool). get_or fs k false) t.others.1 ∙ f.0 k lo (subst (λ (m : ℕ). k < m) t.others.2 hi)),

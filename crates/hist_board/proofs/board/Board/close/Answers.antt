@@ -7,8 +7,10 @@ use Rattle.hist_board.proofs.ClosingLemmas.{sees_on, all_served}
 use Rattle.hist_board.proofs.board.Board.close.Goals as goal
 
 pub returns : goal.returns
-returns g c = let h = g.S.Held in let m0 = c.args.last.seat.me in let seat = c.hold_all-seat.result in let held = c.hold_all-seat.ensures.held in let e = c.close_with-closed.ensures in
-    let n = slots_counts c.close_with-closed.result.slots in let sized = c.args.self.sized in let r = c.args.last.rest.words_are in let t = ap (λ t. t.words) c.requires.board.0 in
+returns g c = let h = g.S.Held in let m0 = c.args.last.seat.me in let seat = c.hold_all-seat.result in
+    let held = c.hold_all-seat.ensures.held in let e = c.close_with-closed.ensures in
+    let n = slots_counts c.close_with-closed.result.slots in let sized = c.args.self.sized in
+    let r = c.args.last.rest.words_are in let t = ap (λ t. t.words) c.requires.board.0 in
     let k : length seat.me.0.kinds ≡ length m0.0.kinds = ap (λ (ks : List ℕ). length ks) held.same.1 in
     let counts = e.counts in (
       seat.me.0,

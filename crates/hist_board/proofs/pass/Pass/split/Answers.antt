@@ -6,7 +6,8 @@ use Rattle.hist_board.proofs.Turning.{made_at_rest}
 use Rattle.hist_board.proofs.pass.Pass.split.Goals as goal
 
 pub split_seat-seat-requires : goal.split_seat-seat-requires
-split_seat-seat-requires g c = let h = g.S.Held in let r = c.args.self.now.rest in let w = r.words_are in let n = r.some_object in let w' = ap (λ t. t.words) c.requires.board.0 in
+split_seat-seat-requires g c = let h = g.S.Held in let r = c.args.self.now.rest in let w = r.words_are in
+    let n = r.some_object in let w' = ap (λ t. t.words) c.requires.board.0 in
     (c.requires.board.0, omega arith, hand_allowed h.history h.frame h.kind h.errands h.fits c.args.board.now.table.shared.key.value.items c.args.self.now.seat.id c.args.self.now.seat.me.0 r.live)
 
 pub invariant_of-result : goal.invariant_of-result
