@@ -39,7 +39,8 @@ module _ {A : Type 0} where
   contains_append (x ∷ xs) ys y c =
       ⊎_elim
       (λ (e : x ≡ y). inl (subst (λ (z : A). Contains (x ∷ xs) z) e (contains_first x xs)))
-      (λ (r : Contains (xs ++ ys) y). ⊎_elim (λ (d : Contains xs y). inl (contains_more x xs y d)) (λ (d : Contains ys y). inr d) (contains_append xs ys y r))
+      (λ (r : Contains (xs ++ ys) y). ⊎_elim (λ (d : Contains xs y). inl (contains_more x xs y d))
+      (λ (d : Contains ys y). inr d) (contains_append xs ys y r))
       (contains_cons x (xs ++ ys) y c)
 
   pub contains_left : (xs ys : List A) (y : A) → Contains xs y → Contains (xs ++ ys) y
@@ -55,7 +56,10 @@ module _ {A : Type 0} where
   contains_right (x ∷ xs) ys y c = contains_more x (xs ++ ys) y (contains_right xs ys y c)
 
   pub contains_snoc : (xs : List A) (x y : A) → Contains (xs ++ x ∷ []) y → Contains xs y ⊎ (x ≡ y)
-  contains_snoc xs x y c = ⊎_elim (λ (d : Contains xs y). inl d) (λ (d : Contains (x ∷ []) y). ⊎_elim (λ (e : x ≡ y). inr e) (λ (r : Contains [] y). absurd (none_in_nil y r)) (contains_cons x [] y d)) (contains_append xs (x ∷ []) y c)
+  contains_snoc xs x y c = ⊎_elim (λ (d : Contains xs y). inl d)
+      (λ (d : Contains (x ∷ []) y). ⊎_elim (λ (e : x ≡ y). inr e)
+      (λ (r : Contains [] y). absurd (none_in_nil y r)) (contains_cons x [] y d))
+      (contains_append xs (x ∷ []) y c)
 
 module _ {A : Type 0} where
   pub within : (l : List A) (i : ℕ) (a : A) → get_elem? l i ≡ some a → i < length l
@@ -90,14 +94,23 @@ module _ {I : Type 0} where
   some_set P lanes id l w at one moves = decide (ℕ_discrete one.0 id)
     where
       decide : Dec (one.0 ≡ id) → SomeLane (set lanes id w) P
-      decide (yes e) = (id, w, here lanes id l w at, moves (subst P (same_there lanes id one.1 l (subst (λ (j : ℕ). get_elem? lanes j ≡ some one.1) e one.2) at) one.3))
+      decide (yes e) = (
+        id,
+        w,
+        here lanes id l w at,
+        moves
+            (subst P (same_there lanes id one.1 l
+            (subst (λ (j : ℕ). get_elem? lanes j ≡ some one.1) e one.2) at) one.3),
+      )
       decide (no n) = (one.0, one.1, set_else lanes id one.0 w n ∙ one.2, one.3)
 
   abbrev Apart : List (Lane I) → ℕ → Lane I → Type 0
-  Apart lanes id w = (j : ℕ) (m : Lane I) → j ≢ id → get_elem? lanes j ≡ some m → w.turn.has ≡ true → m.turn.has ≡ true → w.turn.ticket ≡ m.turn.ticket → ⊥
+  Apart lanes id w = (j : ℕ) (m : Lane I) → j ≢ id → get_elem? lanes j ≡ some m → w.turn.has ≡ true
+      → m.turn.has ≡ true → w.turn.ticket ≡ m.turn.ticket → ⊥
 
   abbrev Distinct : List (Lane I) → Type 0
-  Distinct lanes = (i j : ℕ) (l m : Lane I) → get_elem? lanes i ≡ some l → get_elem? lanes j ≡ some m → l.turn.has ≡ true → m.turn.has ≡ true → l.turn.ticket ≡ m.turn.ticket → i ≡ j
+  Distinct lanes = (i j : ℕ) (l m : Lane I) → get_elem? lanes i ≡ some l → get_elem? lanes j ≡ some m
+      → l.turn.has ≡ true → m.turn.has ≡ true → l.turn.ticket ≡ m.turn.ticket → i ≡ j
 
   distinct_set : (lanes : List (Lane I)) (id : ℕ) (w : Lane I) → Distinct lanes → Apart lanes id w
       → Distinct (set lanes id w)
@@ -105,10 +118,14 @@ module _ {I : Type 0} where
       ⊎_elim
       (λ (x : (i ≡ id) × (w ≡ l)). ⊎_elim
       (λ (y : (j ≡ id) × (w ≡ m)). x.0 ∙ sym y.0)
-      (λ (y : (j ≢ id) × (get_elem? lanes j ≡ some m)). absurd (apart j m y.0 y.1 (ap (λ (u : Lane I). u.turn.has) x.1 ∙ lh) mh (ap (λ (u : Lane I). u.turn.ticket) x.1 ∙ same)))
+      (λ (y : (j ≢ id) × (get_elem? lanes j ≡ some m)). absurd
+      (apart j m y.0 y.1 (ap (λ (u : Lane I). u.turn.has) x.1 ∙ lh) mh
+      (ap (λ (u : Lane I). u.turn.ticket) x.1 ∙ same)))
       (at_set lanes id j w m f))
       (λ (x : (i ≢ id) × (get_elem? lanes i ≡ some l)). ⊎_elim
-      (λ (y : (j ≡ id) × (w ≡ m)). absurd (apart i l x.0 x.1 (ap (λ (u : Lane I). u.turn.has) y.1 ∙ mh) lh (ap (λ (u : Lane I). u.turn.ticket) y.1 ∙ sym same)))
+      (λ (y : (j ≡ id) × (w ≡ m)). absurd
+      (apart i l x.0 x.1 (ap (λ (u : Lane I). u.turn.has) y.1 ∙ mh) lh
+      (ap (λ (u : Lane I). u.turn.ticket) y.1 ∙ sym same)))
       (λ (y : (j ≢ id) × (get_elem? lanes j ≡ some m)). d i j l m x.1 y.1 lh mh same)
       (at_set lanes id j w m f))
       (at_set lanes id i w l e)
@@ -121,7 +138,8 @@ module _ {I : Type 0} where
 
   -- the whole history is known
   pub knows_all : (errands : I → List ℕ) (mine : List ℕ) (h : List I) → Knows errands mine h h
-  knows_all errands mine h = record { rest = []; is = sym (append-nil h); free = λ e x _ c _. none_in_nil x c }
+  knows_all errands mine h =
+      record { rest = []; is = sym (append-nil h); free = λ e x _ c _. none_in_nil x c }
 
 abbrev pub Place : {S I : Type 0} → (S → List I) → (S → Type 0) → List I → List (Lane I) → maybe.Option S
     → Type 0
@@ -147,7 +165,13 @@ module _ {S I : Type 0} (hist : S → List I) (same : S → Type 0) (errands : I
               out = r.out;
               knows = r.knows;
             })
-            record { ticket = λ _. (b, omega arith); whole = λ y. absurd (off y); out = λ y. absurd (off y); knows = old.knows };
+            record {
+              ticket = λ _. (b, omega arith);
+              whole = λ y. absurd (off y);
+              out = λ y. absurd
+                  (off y);
+              knows = old.knows;
+            };
         distinct = distinct_set lanes id w k.distinct (λ j m ne e _ mh tick. let p = (k.each_lane j m e).ticket mh in
             let q : t ≡ m.turn.ticket = tick in omega arith);
         each_ticket = λ q lo hi. tickets q lo hi (dec_le t q);
@@ -158,13 +182,27 @@ module _ {S I : Type 0} (hist : S → List I) (same : S → Type 0) (errands : I
     where
       places : (home : maybe.Option S) → InPlace hist same h lanes home
           → InPlace hist same h (set lanes id (record l { turn = waits t })) home
-      places (some x) p = (p.0, p.1, each_set (λ _ m. m.turn.out ≡ false) lanes id (record l { turn = waits t }) (λ j m _ e. p.2 j m e) refl)
-      places none p = some_set (λ m. m.turn.out ≡ true) lanes id l (record l { turn = waits t }) at p (λ y. absurd (off (sym (ap (λ (u : Turn). u.out) free) ∙ y)))
+      places (some x) p = (
+        p.0,
+        p.1,
+        each_set (λ _ m. m.turn.out ≡ false) lanes id (record l { turn = waits t })
+            (λ j m _ e. p.2 j m e) refl,
+      )
+      places none p = some_set (λ m. m.turn.out ≡ true) lanes id l (record l { turn = waits t }) at p
+          (λ y. absurd (off (sym (ap (λ (u : Turn). u.out) free) ∙ y)))
 
       tickets : (q : ℕ) → s ≤ q → q < t + 1 → Dec (t ≤ q)
-          → SomeLane (set lanes id (record l { turn = waits t })) (λ m. (m.turn.has ≡ true) × (m.turn.ticket ≡ q))
-      tickets q lo hi (yes d) = (id, record l { turn = waits t }, here lanes id l (record l { turn = waits t }) at, (refl, omega arith))
-      tickets q lo hi (no d) = some_set (λ m. (m.turn.has ≡ true) × (m.turn.ticket ≡ q)) lanes id l (record l { turn = waits t }) at (k.each_ticket q lo (omega arith)) (λ y. absurd (off (sym (ap (λ (u : Turn). u.has) free) ∙ y.0)))
+          → SomeLane (set lanes id (record l { turn = waits t }))
+          (λ m. (m.turn.has ≡ true) × (m.turn.ticket ≡ q))
+      tickets q lo hi (yes d) = (
+        id,
+        record l { turn = waits t },
+        here lanes id l (record l { turn = waits t }) at,
+        (refl, omega arith),
+      )
+      tickets q lo hi (no d) = some_set (λ m. (m.turn.has ≡ true) × (m.turn.ticket ≡ q)) lanes id l
+          (record l { turn = waits t }) at (k.each_ticket q lo (omega arith))
+          (λ y. absurd (off (sym (ap (λ (u : Turn). u.has) free) ∙ y.0)))
 
   -- the ticket is served, and the whole history is seen
   pub looks : (t s n : ℕ) (home : maybe.Option S) (h : List I) (lanes : List (Lane I)) (id : ℕ) (l : Lane I)
@@ -176,9 +214,17 @@ module _ {S I : Type 0} (hist : S → List I) (same : S → Type 0) (errands : I
         behind = k.behind;
         room = k.room;
         each_lane = each_set (λ _ m. LaneKept errands t s h m) lanes id w (λ j m _ e. k.each_lane j m e)
-            record { ticket = λ _. (omega arith, omega arith); whole = λ y. (refl, refl, refl); out = λ y. absurd (off y); knows = knows_all errands l.mine h };
-        distinct = distinct_set lanes id w k.distinct (apart_still lanes id l w k.distinct at (λ _. (ap (λ (u : Turn). u.has) waiting, mine)));
-        each_ticket = λ q lo hi. some_set (λ m. (m.turn.has ≡ true) × (m.turn.ticket ≡ q)) lanes id l w at (k.each_ticket q lo hi) (λ y. (refl, sym mine ∙ y.1));
+            record {
+              ticket = λ _. (omega arith, omega arith);
+              whole = λ y.
+                  (refl, refl, refl);
+              out = λ y. absurd (off y);
+              knows = knows_all errands l.mine h;
+            };
+        distinct = distinct_set lanes id w k.distinct
+            (apart_still lanes id l w k.distinct at (λ _. (ap (λ (u : Turn). u.has) waiting, mine)));
+        each_ticket = λ q lo hi. some_set (λ m. (m.turn.has ≡ true) × (m.turn.ticket ≡ q)) lanes id l w at
+            (k.each_ticket q lo hi) (λ y. (refl, sym mine ∙ y.1));
         place = places home k.place;
         long = k.long;
         longest = some_set (λ m. m.seen ≡ h) lanes id l w at k.longest (λ y. refl);
@@ -186,14 +232,22 @@ module _ {S I : Type 0} (hist : S → List I) (same : S → Type 0) (errands : I
     where
       places : (home : maybe.Option S) → InPlace hist same h lanes home
           → InPlace hist same h (set lanes id record { turn = served s; seen = h; mine = l.mine }) home
-      places (some x) p = (p.0, p.1, each_set (λ _ m. m.turn.out ≡ false) lanes id record { turn = served s; seen = h; mine = l.mine } (λ j m _ e. p.2 j m e) refl)
-      places none p = some_set (λ m. m.turn.out ≡ true) lanes id l record { turn = served s; seen = h; mine = l.mine } at p (λ y. absurd (off (sym (ap (λ (u : Turn). u.out) waiting) ∙ y)))
+      places (some x) p = (
+        p.0,
+        p.1,
+        each_set (λ _ m. m.turn.out ≡ false) lanes id
+            record { turn = served s; seen = h; mine = l.mine } (λ j m _ e. p.2 j m e) refl,
+      )
+      places none p = some_set (λ m. m.turn.out ≡ true) lanes id l
+          record { turn = served s; seen = h; mine = l.mine } at p
+          (λ y. absurd (off (sym (ap (λ (u : Turn). u.out) waiting) ∙ y)))
 
   -- the object is taken by the view that is served
   pub takes : (t s n : ℕ) (home : maybe.Option S) (h : List I) (lanes : List (Lane I)) (id : ℕ) (l : Lane I)
       → Fine t s n home h lanes → get_elem? lanes id ≡ some l
       → (l.turn.has ≡ true) × (l.turn.whole ≡ true) × (l.turn.out ≡ false)
-      → ((x : S) × (home ≡ some x) × (hist x ≡ h) × same x) × Fine t s n none h (set lanes id (record l { turn = borrows l.turn.ticket }))
+      → ((x : S) × (home ≡ some x) × (hist x ≡ h) × same x) × Fine t s n none h
+      (set lanes id (record l { turn = borrows l.turn.ticket }))
   takes t s n home h lanes id l k at turn = let w : Lane I = record l { turn = borrows l.turn.ticket } in
       let old = k.each_lane id l at in let mine = old.whole turn.1 in (
         (there home k.place),
@@ -201,9 +255,17 @@ module _ {S I : Type 0} (hist : S → List I) (same : S → Type 0) (errands : I
           behind = k.behind;
           room = k.room;
           each_lane = each_set (λ _ m. LaneKept errands t s h m) lanes id w (λ j m _ e. k.each_lane j m e)
-              record { ticket = λ _. old.ticket turn.0; whole = λ y. (refl, mine.1, mine.2); out = λ y. refl; knows = old.knows };
-          distinct = distinct_set lanes id w k.distinct (apart_still lanes id l w k.distinct at (λ _. (turn.0, refl)));
-          each_ticket = λ q lo hi. some_set (λ m. (m.turn.has ≡ true) × (m.turn.ticket ≡ q)) lanes id l w at (k.each_ticket q lo hi) (λ y. (refl, y.1));
+              record {
+                ticket = λ _. old.ticket turn.0;
+                whole = λ y.
+                    (refl, mine.1, mine.2);
+                out = λ y. refl;
+                knows = old.knows;
+              };
+          distinct = distinct_set lanes id w k.distinct
+              (apart_still lanes id l w k.distinct at (λ _. (turn.0, refl)));
+          each_ticket = λ q lo hi. some_set (λ m. (m.turn.has ≡ true) × (m.turn.ticket ≡ q)) lanes id l w at
+              (k.each_ticket q lo hi) (λ y. (refl, y.1));
           place = (id, w, here lanes id l w at, refl);
           long = k.long;
           longest = some_set (λ m. m.seen ≡ h) lanes id l w at k.longest (λ y. y);
@@ -216,7 +278,8 @@ module _ {S I : Type 0} (hist : S → List I) (same : S → Type 0) (errands : I
       there none p = let other = (k.each_lane p.0 p.1 p.2).whole ((k.each_lane p.0 p.1 p.2).out p.3) in
           let mine = (k.each_lane id l at).whole turn.1 in
           let one : p.0 ≡ id = k.distinct p.0 id p.1 l p.2 at other.0 turn.0 (other.1 ∙ sym mine.1) in
-          let both : p.1 ≡ l = same_there lanes id p.1 l (subst (λ (j : ℕ). get_elem? lanes j ≡ some p.1) one p.2) at in
+          let both : p.1 ≡ l = same_there lanes id p.1 l
+          (subst (λ (j : ℕ). get_elem? lanes j ≡ some p.1) one p.2) at in
           absurd (off (sym turn.2 ∙ (sym (ap (λ (u : Lane I). u.turn.out) both) ∙ p.3)))
 
   -- a lane other than that of the served ticket is not served
@@ -227,9 +290,11 @@ module _ {S I : Type 0} (hist : S → List I) (same : S → Type 0) (errands : I
       ne (k.distinct j id m l e at has mine.0 (tick ∙ sym mine.1))
 
   -- an entry is added at the end of the history
-  pub grows : (t s n : ℕ) (home : maybe.Option S) (h : List I) (lanes : List (Lane I)) (id : ℕ) (l : Lane I) (x : I)
+  pub grows : (t s n : ℕ) (home : maybe.Option S) (h : List I) (lanes : List (Lane I)) (id : ℕ) (l : Lane I)
+      (x : I)
       → Fine t s n home h lanes → get_elem? lanes id ≡ some l → l.turn.out ≡ true
-      → ((j : ℕ) (m : Lane I) (e : ℕ) → j ≢ id → get_elem? lanes j ≡ some m → Contains m.mine e → ¬ Contains (errands x) e)
+      → ((j : ℕ) (m : Lane I) (e : ℕ) → j ≢ id → get_elem? lanes j ≡ some m → Contains m.mine e → ¬ Contains
+      (errands x) e)
       → Fine t s (n + 1) home (h ++ x ∷ []) (set lanes id (record l { seen = h ++ x ∷ [] }))
   grows t s n home h lanes id l x k at out foreign = let w : Lane I = record l { seen = h ++ x ∷ [] } in
       let old = k.each_lane id l at in let whole = old.out out in let mine = old.whole whole in
@@ -243,9 +308,17 @@ module _ {S I : Type 0} (hist : S → List I) (same : S → Type 0) (errands : I
               out = r.out;
               knows = more m.mine m.seen r.knows (λ q. foreign j m q ne e);
             })
-            record { ticket = old.ticket; whole = λ y. (mine.0, mine.1, refl); out = old.out; knows = knows_all errands l.mine (h ++ x ∷ []) };
-        distinct = distinct_set lanes id w k.distinct (apart_still lanes id l w k.distinct at (λ y. (y, refl)));
-        each_ticket = λ q lo hi. some_set (λ m. (m.turn.has ≡ true) × (m.turn.ticket ≡ q)) lanes id l w at (k.each_ticket q lo hi) (λ y. y);
+            record {
+              ticket = old.ticket;
+              whole = λ y.
+                  (mine.0, mine.1, refl);
+              out = old.out;
+              knows = knows_all errands l.mine (h ++ x ∷ []);
+            };
+        distinct = distinct_set lanes id w k.distinct
+            (apart_still lanes id l w k.distinct at (λ y. (y, refl)));
+        each_ticket = λ q lo hi. some_set (λ m. (m.turn.has ≡ true) × (m.turn.ticket ≡ q)) lanes id l w at
+            (k.each_ticket q lo hi) (λ y. y);
         place = places home k.place;
         long = omega (arith, length-append h (x ∷ []));
         longest = (id, w, here lanes id l w at, refl);
@@ -256,16 +329,20 @@ module _ {S I : Type 0} (hist : S → List I) (same : S → Type 0) (errands : I
       more mine seen o far = record {
         rest = o.rest ++ x ∷ [];
         is = ap (λ (z : List I). z ++ x ∷ []) o.is ∙ append_assoc seen o.rest (x ∷ []);
-        free = λ e y has c theirs. ⊎_elim (λ (d : Contains o.rest y). o.free e y has d theirs) (λ (d : x ≡ y). far e has (subst (λ (z : I). Contains (errands z) e) (sym d) theirs)) (contains_snoc o.rest x y c);
+        free = λ e y has c theirs. ⊎_elim (λ (d : Contains o.rest y). o.free e y has d theirs)
+            (λ (d : x ≡ y). far e has (subst (λ (z : I). Contains (errands z) e) (sym d) theirs))
+            (contains_snoc o.rest x y c);
       }
 
       places : (home : maybe.Option S) → InPlace hist same h lanes home
           → InPlace hist same (h ++ x ∷ []) (set lanes id (record l { seen = h ++ x ∷ [] })) home
       places (some y) p = absurd (off (sym (p.2 id l at) ∙ out))
-      places none p = (id, record l { seen = h ++ x ∷ [] }, here lanes id l (record l { seen = h ++ x ∷ [] }) at, out)
+      places none p =
+          (id, record l { seen = h ++ x ∷ [] }, here lanes id l (record l { seen = h ++ x ∷ [] }) at, out)
 
   -- the object is given back, and the turn passed on
-  pub passes : (t s n : ℕ) (home : maybe.Option S) (h : List I) (lanes : List (Lane I)) (id : ℕ) (l : Lane I) (y : S)
+  pub passes : (t s n : ℕ) (home : maybe.Option S) (h : List I) (lanes : List (Lane I)) (id : ℕ) (l : Lane I)
+      (y : S)
       → Fine t s n home h lanes → get_elem? lanes id ≡ some l → l.turn.out ≡ true → hist y ≡ l.seen → same y
       → (s + 1 ≤ t) × Fine t (s + 1) n (some y) h (set lanes id (record l { turn = no_turn }))
   passes t s n home h lanes id l y k at out is kept = let w : Lane I = record l { turn = no_turn } in
@@ -285,7 +362,13 @@ module _ {S I : Type 0} (hist : S → List I) (same : S → Type 0) (errands : I
                 out = r.out;
                 knows = r.knows;
               })
-              record { ticket = λ z. absurd (off z); whole = λ z. absurd (off z); out = λ z. absurd (off z); knows = old.knows };
+              record {
+                ticket = λ z. absurd (off z);
+                whole = λ z. absurd (off z);
+                out = λ z. absurd
+                    (off z);
+                knows = old.knows;
+              };
           distinct = distinct_set lanes id w k.distinct (λ j m ne e z _ _. off z);
           each_ticket = λ q lo hi. some_set (λ m. (m.turn.has ≡ true) × (m.turn.ticket ≡ q)) lanes id l w at (k.each_ticket q (omega arith) hi) (λ z. let p : l.turn.ticket ≡ q = z.1 in
               absurd (omega arith));
@@ -303,14 +386,17 @@ module _ {S I : Type 0} (hist : S → List I) (same : S → Type 0) (errands : I
       )
 
   -- a lane knows more, at the same turn
-  pub relearns : (t s n : ℕ) (home : maybe.Option S) (h : List I) (lanes : List (Lane I)) (id : ℕ) (l w : Lane I)
+  pub relearns : (t s n : ℕ) (home : maybe.Option S) (h : List I) (lanes : List (Lane I)) (id : ℕ)
+      (l w : Lane I)
       → Fine t s n home h lanes → get_elem? lanes id ≡ some l → w.turn ≡ l.turn → (l.seen ≡ h → w.seen ≡ h)
       → Knows errands w.mine w.seen h
       → Fine t s n home h (set lanes id w)
   relearns t s n home h lanes id l w k at turn more knows = let old = k.each_lane id l at in record {
     behind = k.behind;
     room = k.room;
-    each_lane = each_set (λ _ m. LaneKept errands t s h m) lanes id w (λ j m _ e. k.each_lane j m e) (subst (λ (u : Turn). LaneKept errands t s h record { turn = u; seen = w.seen; mine = w.mine }) (sym turn)
+    each_lane = each_set (λ _ m. LaneKept errands t s h m) lanes id w (λ j m _ e. k.each_lane j m e)
+        (subst (λ (u : Turn). LaneKept errands t s h record { turn = u; seen = w.seen; mine = w.mine })
+        (sym turn)
         record {
           ticket = old.ticket;
           whole = λ z. let p = old.whole z in
@@ -318,8 +404,12 @@ module _ {S I : Type 0} (hist : S → List I) (same : S → Type 0) (errands : I
           out = old.out;
           knows = knows;
         });
-    distinct = distinct_set lanes id w k.distinct (apart_still lanes id l w k.distinct at (λ z. (sym (ap (λ (u : Turn). u.has) turn) ∙ z, sym (ap (λ (u : Turn). u.ticket) turn))));
-    each_ticket = λ q lo hi. some_set (λ m. (m.turn.has ≡ true) × (m.turn.ticket ≡ q)) lanes id l w at (k.each_ticket q lo hi) (λ z. (ap (λ (u : Turn). u.has) turn ∙ z.0, ap (λ (u : Turn). u.ticket) turn ∙ z.1));
+    distinct = distinct_set lanes id w k.distinct
+        (apart_still lanes id l w k.distinct at
+        (λ z. (sym (ap (λ (u : Turn). u.has) turn) ∙ z, sym (ap (λ (u : Turn). u.ticket) turn))));
+    each_ticket = λ q lo hi. some_set (λ m. (m.turn.has ≡ true) × (m.turn.ticket ≡ q)) lanes id l w at
+        (k.each_ticket q lo hi)
+        (λ z. (ap (λ (u : Turn). u.has) turn ∙ z.0, ap (λ (u : Turn). u.ticket) turn ∙ z.1));
     place = places home k.place;
     long = k.long;
     longest = some_set (λ m. m.seen ≡ h) lanes id l w at k.longest more;
@@ -327,8 +417,14 @@ module _ {S I : Type 0} (hist : S → List I) (same : S → Type 0) (errands : I
     where
       places : (home : maybe.Option S) → InPlace hist same h lanes home
           → InPlace hist same h (set lanes id w) home
-      places (some x) p = (p.0, p.1, each_set (λ _ m. m.turn.out ≡ false) lanes id w (λ j m _ e. p.2 j m e) (ap (λ (u : Turn). u.out) turn ∙ p.2 id l at))
-      places none p = some_set (λ m. m.turn.out ≡ true) lanes id l w at p (λ z. ap (λ (u : Turn). u.out) turn ∙ z)
+      places (some x) p = (
+        p.0,
+        p.1,
+        each_set (λ _ m. m.turn.out ≡ false) lanes id w (λ j m _ e. p.2 j m e)
+            (ap (λ (u : Turn). u.out) turn ∙ p.2 id l at),
+      )
+      places none p = some_set (λ m. m.turn.out ≡ true) lanes id l w at p
+          (λ z. ap (λ (u : Turn). u.out) turn ∙ z)
 
   -- a lane that has no turn comes
   pub comes : (t s n : ℕ) (home : maybe.Option S) (h : List I) (lanes : List (Lane I)) (w : Lane I)
@@ -337,10 +433,17 @@ module _ {S I : Type 0} (hist : S → List I) (same : S → Type 0) (errands : I
   comes t s n home h lanes w k free knows = record {
     behind = k.behind;
     room = k.room;
-    each_lane = λ j m e. ⊎_elim (λ (z : get_elem? lanes j ≡ some m). k.each_lane j m z) (λ (z : w ≡ m). subst (λ (u : Lane I). LaneKept errands t s h u) z idle) (at_snoc lanes w m j e);
+    each_lane = λ j m e. ⊎_elim (λ (z : get_elem? lanes j ≡ some m). k.each_lane j m z)
+        (λ (z : w ≡ m). subst (λ (u : Lane I). LaneKept errands t s h u) z idle) (at_snoc lanes w m j e);
     distinct = λ i j l m e f lh mh tick.
-        ⊎_elim (λ (y : get_elem? lanes i ≡ some l). ⊎_elim (λ (z : get_elem? lanes j ≡ some m). k.distinct i j l m y z lh mh tick) (λ (z : w ≡ m). absurd (off (sym (ap (λ (u : Turn). u.has) free) ∙ (ap (λ (u : Lane I). u.turn.has) z ∙ mh)))) (at_snoc lanes w m j f))
-        (λ (y : w ≡ l). absurd (off (sym (ap (λ (u : Turn). u.has) free) ∙ (ap (λ (u : Lane I). u.turn.has) y ∙ lh)))) (at_snoc lanes w l i e);
+        ⊎_elim (λ (y : get_elem? lanes i ≡ some l). ⊎_elim
+        (λ (z : get_elem? lanes j ≡ some m). k.distinct i j l m y z lh mh tick)
+        (λ (z : w ≡ m). absurd
+        (off (sym (ap (λ (u : Turn). u.has) free) ∙ (ap (λ (u : Lane I). u.turn.has) z ∙ mh))))
+        (at_snoc lanes w m j f))
+        (λ (y : w ≡ l). absurd
+        (off (sym (ap (λ (u : Turn). u.has) free) ∙ (ap (λ (u : Lane I). u.turn.has) y ∙ lh))))
+        (at_snoc lanes w l i e);
     each_ticket = λ q lo hi. let p = k.each_ticket q lo hi in
         (p.0, p.1, at_longer lanes (w ∷ []) p.0 p.1 p.2, p.3);
     place = places home k.place;
@@ -358,11 +461,18 @@ module _ {S I : Type 0} (hist : S → List I) (same : S → Type 0) (errands : I
 
       places : (home : maybe.Option S) → InPlace hist same h lanes home
           → InPlace hist same h (lanes ++ w ∷ []) home
-      places (some x) p = (p.0, p.1, λ j m e. ⊎_elim (λ (z : get_elem? lanes j ≡ some m). p.2 j m z) (λ (z : w ≡ m). sym (ap (λ (u : Lane I). u.turn.out) z) ∙ ap (λ (u : Turn). u.out) free) (at_snoc lanes w m j e))
+      places (some x) p = (
+        p.0,
+        p.1,
+        λ j m e. ⊎_elim (λ (z : get_elem? lanes j ≡ some m). p.2 j m z)
+            (λ (z : w ≡ m). sym (ap (λ (u : Lane I). u.turn.out) z) ∙ ap (λ (u : Turn). u.out) free)
+            (at_snoc lanes w m j e),
+      )
       places none p = (p.0, p.1, at_longer lanes (w ∷ []) p.0 p.1 p.2, p.3)
 
   -- a lane that has no turn is spent: another has seen as much
-  pub spends : (t s n : ℕ) (home : maybe.Option S) (h : List I) (lanes : List (Lane I)) (id : ℕ) (l : Lane I) (other : ℕ) (m : Lane I)
+  pub spends : (t s n : ℕ) (home : maybe.Option S) (h : List I) (lanes : List (Lane I)) (id : ℕ) (l : Lane I)
+      (other : ℕ) (m : Lane I)
       → Fine t s n home h lanes → get_elem? lanes id ≡ some l → l.turn ≡ no_turn
       → other ≢ id → get_elem? lanes other ≡ some m → (l.seen ≡ h → m.seen ≡ h)
       → Fine t s n home h (set lanes id record { turn = no_turn; seen = []; mine = [] })
@@ -371,9 +481,16 @@ module _ {S I : Type 0} (hist : S → List I) (same : S → Type 0) (errands : I
         behind = k.behind;
         room = k.room;
         each_lane = each_set (λ _ u. LaneKept errands t s h u) lanes id w (λ j u _ e. k.each_lane j u e)
-            record { ticket = λ z. absurd (off z); whole = λ z. absurd (off z); out = λ z. absurd (off z); knows = record { rest = h; is = refl; free = λ e y c _ _. none_in_nil e c } };
+            record {
+              ticket = λ z. absurd (off z);
+              whole = λ z. absurd (off z);
+              out = λ z. absurd
+                  (off z);
+              knows = record { rest = h; is = refl; free = λ e y c _ _. none_in_nil e c };
+            };
         distinct = distinct_set lanes id w k.distinct (λ j u _ e z _ _. off z);
-        each_ticket = λ q lo hi. some_set (λ u. (u.turn.has ≡ true) × (u.turn.ticket ≡ q)) lanes id l w at (k.each_ticket q lo hi) (λ z. absurd (off (sym (ap (λ (u : Turn). u.has) free) ∙ z.0)));
+        each_ticket = λ q lo hi. some_set (λ u. (u.turn.has ≡ true) × (u.turn.ticket ≡ q)) lanes id l w at
+            (k.each_ticket q lo hi) (λ z. absurd (off (sym (ap (λ (u : Turn). u.has) free) ∙ z.0)));
         place = places home k.place;
         long = k.long;
         longest = seen_by k.longest (ℕ_discrete k.longest.0 id);
@@ -381,11 +498,24 @@ module _ {S I : Type 0} (hist : S → List I) (same : S → Type 0) (errands : I
     where
       places : (home : maybe.Option S) → InPlace hist same h lanes home
           → InPlace hist same h (set lanes id record { turn = no_turn; seen = []; mine = [] }) home
-      places (some x) p = (p.0, p.1, each_set (λ _ u. u.turn.out ≡ false) lanes id record { turn = no_turn; seen = []; mine = [] } (λ j u _ e. p.2 j u e) refl)
-      places none p = some_set (λ u. u.turn.out ≡ true) lanes id l record { turn = no_turn; seen = []; mine = [] } at p (λ z. absurd (off (sym (ap (λ (u : Turn). u.out) free) ∙ z)))
+      places (some x) p = (
+        p.0,
+        p.1,
+        each_set (λ _ u. u.turn.out ≡ false) lanes id
+            record { turn = no_turn; seen = []; mine = [] } (λ j u _ e. p.2 j u e) refl,
+      )
+      places none p = some_set (λ u. u.turn.out ≡ true) lanes id l
+          record { turn = no_turn; seen = []; mine = [] } at p
+          (λ z. absurd (off (sym (ap (λ (u : Turn). u.out) free) ∙ z)))
 
       seen_by : (p : SomeLane lanes (λ u. u.seen ≡ h)) → Dec (p.0 ≡ id)
           → SomeLane (set lanes id record { turn = no_turn; seen = []; mine = [] }) (λ u. u.seen ≡ h)
-      seen_by p (yes e) = let is : p.1 ≡ l = same_there lanes id p.1 l (subst (λ (j : ℕ). get_elem? lanes j ≡ some p.1) e p.2) at in
-          (other, m, set_else lanes id other record { turn = no_turn; seen = []; mine = [] } ne ∙ there, more (sym (ap (λ (u : Lane I). u.seen) is) ∙ p.3))
-      seen_by p (no d) = (p.0, p.1, set_else lanes id p.0 record { turn = no_turn; seen = []; mine = [] } d ∙ p.2, p.3)
+      seen_by p (yes e) = let is : p.1 ≡ l = same_there lanes id p.1 l (subst (λ (j : ℕ). get_elem? lanes j ≡ some p.1) e p.2) at in (
+        other,
+        m,
+        set_else lanes id other record { turn = no_turn; seen = []; mine = [] } ne ∙ there,
+        more
+            (sym (ap (λ (u : Lane I). u.seen) is) ∙ p.3),
+      )
+      seen_by p (no d) =
+          (p.0, p.1, set_else lanes id p.0 record { turn = no_turn; seen = []; mine = [] } d ∙ p.2, p.3)

@@ -24,9 +24,11 @@ snoc_at : {A : Type 0} (l : List A) (a b : A) (j : ℕ) → get_elem? (l ++ a �
 snoc_at [] a b zero e = inr (refl, some-injective a b e)
 snoc_at [] a b (suc j) e = absurd (some-ne-none b (sym e))
 snoc_at (x ∷ xs) a b zero e = inl e
-snoc_at (x ∷ xs) a b (suc j) e = ⊎_elim (λ (p : get_elem? xs j ≡ some b). inl p) (λ (p : (j ≡ length xs) × (a ≡ b)). inr (ap suc p.0, p.1)) (snoc_at xs a b j e)
+snoc_at (x ∷ xs) a b (suc j) e = ⊎_elim (λ (p : get_elem? xs j ≡ some b). inl p)
+    (λ (p : (j ≡ length xs) × (a ≡ b)). inr (ap suc p.0, p.1)) (snoc_at xs a b j e)
 
-module _ {S I F : Type 0} (hist : S → List I) (same : ℕ → S → Type 0) (errands : I → List ℕ) (fits : List (List I) → Type 0) (frame : Option F) (kinds : List ℕ) where
+module _ {S I F : Type 0} (hist : S → List I) (same : ℕ → S → Type 0) (errands : I → List ℕ)
+    (fits : List (List I) → Type 0) (frame : Option F) (kinds : List ℕ) where
   abbrev Rule : State S (View I F) → Type 0
   Rule = Kept hist same errands fits frame kinds
 
@@ -50,8 +52,13 @@ module _ {S I F : Type 0} (hist : S → List I) (same : ℕ → S → Type 0) (e
     words = k.words;
     objects = λ p near. object p near;
     views = λ j u e. ⊎_elim
-        (λ (x : get_elem? (set s.views id left) j ≡ some u). each_set (λ _ (z : View I F). (z ≡ spent) ⊎ (Fitted frame kinds z × Told errands z)) s.views id left (λ j z _ e. k.views j z e) (inr (left_fits, none_told hist same errands fits frame kinds left lo)) j u x)
-        (λ (x : (j ≡ length (set s.views id left)) × (right ≡ u)). subst (λ (z : View I F). (z ≡ spent) ⊎ (Fitted frame kinds z × Told errands z)) x.1 (inr (right_fits, none_told hist same errands fits frame kinds right ro)))
+        (λ (x : get_elem? (set s.views id left) j ≡ some u). each_set
+        (λ _ (z : View I F). (z ≡ spent) ⊎ (Fitted frame kinds z × Told errands z)) s.views id left
+        (λ j z _ e. k.views j z e)
+        (inr (left_fits, none_told hist same errands fits frame kinds left lo)) j u x)
+        (λ (x : (j ≡ length (set s.views id left)) × (right ≡ u)). subst
+        (λ (z : View I F). (z ≡ spent) ⊎ (Fitted frame kinds z × Told errands z)) x.1
+        (inr (right_fits, none_told hist same errands fits frame kinds right ro)))
         (snoc_at (set s.views id left) right u j e);
     apart = λ i j x y e ax ay hx hy. alone i j x y e ax ay hx hy;
     held = λ e lt. holder e (k.held e lt);
@@ -62,39 +69,69 @@ module _ {S I F : Type 0} (hist : S → List I) (same : ℕ → S → Type 0) (e
       fit_v = fitted hist same errands fits frame kinds s k id v at live
 
       left_fits : Fitted frame kinds left
-      left_fits = record { same_frame = lf.0 ∙ fit_v.same_frame; same_kinds = lf.1 ∙ fit_v.same_kinds; each_seen = ap (λ (l : List (List I)). length l) ls ∙ fit_v.each_seen; each_turn = ap (λ (l : List Turn). length l) lt ∙ fit_v.each_turn }
+      left_fits = record {
+        same_frame = lf.0 ∙ fit_v.same_frame;
+        same_kinds = lf.1
+            ∙ fit_v.same_kinds;
+        each_seen = ap (λ (l : List (List I)). length l) ls
+            ∙ fit_v.each_seen;
+        each_turn = ap (λ (l : List Turn). length l) lt ∙ fit_v.each_turn;
+      }
 
       right_fits : Fitted frame kinds right
-      right_fits = record { same_frame = rf.0 ∙ fit_v.same_frame; same_kinds = rf.1 ∙ fit_v.same_kinds; each_seen = ap (λ (l : List (List I)). length l) rs ∙ fit_v.each_seen; each_turn = ap (λ (l : List Turn). length l) rt ∙ (length_one no_turn v.turns ∙ fit_v.each_turn) }
+      right_fits = record {
+        same_frame = rf.0 ∙ fit_v.same_frame;
+        same_kinds = rf.1
+            ∙ fit_v.same_kinds;
+        each_seen = ap (λ (l : List (List I)). length l) rs
+            ∙ fit_v.each_seen;
+        each_turn = ap (λ (l : List Turn). length l) rt ∙
+            (length_one no_turn v.turns ∙ fit_v.each_turn);
+      }
 
       object : (p : ℕ) → p < length kinds
-          → ObjectKept hist (same p) errands (slice_index s.words (3 * p)) (slice_index s.words (3 * p + 1)) (slice_index s.words (3 * p + 2)) (slice_index_or s.homes p none) (slice_index_or k.histories p []) (map (lane p) (set s.views id left ++ right ∷ []))
+          → ObjectKept hist (same p) errands (slice_index s.words (3 * p)) (slice_index s.words (3 * p + 1))
+          (slice_index s.words (3 * p + 2)) (slice_index_or s.homes p none)
+          (slice_index_or k.histories p []) (map (lane p) (set s.views id left ++ right ∷ []))
       object p near = let h = slice_index_or k.histories p [] in let there = at_map (lane p) s.views id v at in
           let kn = ((k.objects p near).each_lane id (lane p v) there).knows in
           let seen_l : seen_at left p ≡ seen_at v p = ap (λ (l : List (List I)). get_or l p []) ls in
           let seen_r : seen_at right p ≡ seen_at v p = ap (λ (l : List (List I)). get_or l p []) rs in
           let one = lanes.relearns hist (same p) errands (slice_index s.words (3 * p)) (slice_index s.words (3 * p + 1)) (slice_index s.words (3 * p + 2)) (slice_index_or s.homes p none) h (map (lane p) s.views) id (lane p v) (lane p left) (k.objects p near) there
-          (ap (λ (l : List Turn). get_or l p no_turn) lt) (λ e. seen_l ∙ e) (subst (λ (z : List I). Knows errands left.errands z h) (sym seen_l) (fewer v.errands left.errands (seen_at v p) h l_sub kn)) in
+          (ap (λ (l : List Turn). get_or l p no_turn) lt) (λ e. seen_l ∙ e)
+          (subst (λ (z : List I). Knows errands left.errands z h) (sym seen_l)
+          (fewer v.errands left.errands (seen_at v p) h l_sub kn)) in
           let two = lanes.comes hist (same p) errands (slice_index s.words (3 * p)) (slice_index s.words (3 * p + 1)) (slice_index s.words (3 * p + 2)) (slice_index_or s.homes p none) h (set (map (lane p) s.views) id (lane p left)) (lane p right) one
-          (ap (λ (l : List Turn). get_or l p no_turn) rt ∙ map_one no_turn v.turns p) (subst (λ (z : List I). Knows errands right.errands z h) (sym seen_r) (fewer v.errands right.errands (seen_at v p) h r_sub kn)) in
-          subst (λ (l : List (Lane I)). ObjectKept hist (same p) errands (slice_index s.words (3 * p)) (slice_index s.words (3 * p + 1)) (slice_index s.words (3 * p + 2)) (slice_index_or s.homes p none) h l)
-          (sym (map-append (lane p) (set s.views id left) (right ∷ []) ∙ ap (λ (l : List (Lane I)). l ++ lane p right ∷ []) (map-set (lane p) s.views id left))) two
+          (ap (λ (l : List Turn). get_or l p no_turn) rt ∙ map_one no_turn v.turns p)
+          (subst (λ (z : List I). Knows errands right.errands z h) (sym seen_r)
+          (fewer v.errands right.errands (seen_at v p) h r_sub kn)) in
+          subst (λ (l : List (Lane I)). ObjectKept hist (same p) errands (slice_index s.words (3 * p))
+          (slice_index s.words (3 * p + 1)) (slice_index s.words (3 * p + 2))
+          (slice_index_or s.homes p none) h l)
+          (sym (map-append (lane p) (set s.views id left) (right ∷ []) ∙ ap
+          (λ (l : List (Lane I)). l ++ lane p right ∷ []) (map-set (lane p) s.views id left))) two
 
       -- a view of the old ones that holds an errand of v is v
-      mine : (i : ℕ) (x : View I F) (e : ℕ) → get_elem? (set s.views id left) i ≡ some x → Contains x.errands e
+      mine : (i : ℕ) (x : View I F) (e : ℕ) → get_elem? (set s.views id left) i ≡ some x
+          → Contains x.errands e
           → Contains v.errands e → i ≡ id
-      mine i x e ax hx hv = ⊎_elim (λ (p : (i ≡ id) × (left ≡ x)). p.0) (λ (p : (i ≢ id) × (get_elem? s.views i ≡ some x)). k.apart i id x v e p.1 at hx hv) (at_set s.views id i left x ax)
+      mine i x e ax hx hv = ⊎_elim (λ (p : (i ≡ id) × (left ≡ x)). p.0)
+          (λ (p : (i ≢ id) × (get_elem? s.views i ≡ some x)). k.apart i id x v e p.1 at hx hv)
+          (at_set s.views id i left x ax)
 
       -- and then it has what is left
       at_id : (i : ℕ) (x : View I F) → get_elem? (set s.views id left) i ≡ some x → i ≡ id → left ≡ x
-      at_id i x ax e = ⊎_elim (λ (p : (i ≡ id) × (left ≡ x)). p.1) (λ (p : (i ≢ id) × (get_elem? s.views i ≡ some x)). absurd (p.0 e)) (at_set s.views id i left x ax)
+      at_id i x ax e = ⊎_elim (λ (p : (i ≡ id) × (left ≡ x)). p.1)
+          (λ (p : (i ≢ id) × (get_elem? s.views i ≡ some x)). absurd (p.0 e)) (at_set s.views id i left x ax)
 
       old : (i j : ℕ) (x y : View I F) (e : ℕ) → get_elem? (set s.views id left) i ≡ some x
           → get_elem? (set s.views id left) j ≡ some y → Contains x.errands e → Contains y.errands e → i ≡ j
       old i j x y e ax ay hx hy = ⊎_elim
-          (λ (p : (i ≡ id) × (left ≡ x)). p.0 ∙ sym (mine j y e ay hy (l_sub e (subst (λ (z : View I F). Contains z.errands e) (sym p.1) hx))))
+          (λ (p : (i ≡ id) × (left ≡ x)). p.0 ∙ sym
+          (mine j y e ay hy (l_sub e (subst (λ (z : View I F). Contains z.errands e) (sym p.1) hx))))
           (λ (p : (i ≢ id) × (get_elem? s.views i ≡ some x)). ⊎_elim
-          (λ (q : (j ≡ id) × (left ≡ y)). k.apart i id x v e p.1 at hx (l_sub e (subst (λ (z : View I F). Contains z.errands e) (sym q.1) hy)) ∙ sym q.0)
+          (λ (q : (j ≡ id) × (left ≡ y)). k.apart i id x v e p.1 at hx
+          (l_sub e (subst (λ (z : View I F). Contains z.errands e) (sym q.1) hy)) ∙ sym q.0)
           (λ (q : (j ≢ id) × (get_elem? s.views j ≡ some y)). k.apart i j x y e p.1 q.1 hx hy)
           (at_set s.views id j left y ay))
           (at_set s.views id i left x ax)
@@ -109,22 +146,48 @@ module _ {S I F : Type 0} (hist : S → List I) (same : ℕ → S → Type 0) (e
           → get_elem? (set s.views id left ++ right ∷ []) j ≡ some y → Contains x.errands e
           → Contains y.errands e → i ≡ j
       alone i j x y e ax ay hx hy = ⊎_elim
-          (λ (p : get_elem? (set s.views id left) i ≡ some x). ⊎_elim (λ (q : get_elem? (set s.views id left) j ≡ some y). old i j x y e p q hx hy) (λ (q : (j ≡ length (set s.views id left)) × (right ≡ y)). absurd (crossed i x y e p q.1 hx hy)) (snoc_at (set s.views id left) right y j ay))
-          (λ (p : (i ≡ length (set s.views id left)) × (right ≡ x)). ⊎_elim (λ (q : get_elem? (set s.views id left) j ≡ some y). absurd (crossed j y x e q p.1 hy hx)) (λ (q : (j ≡ length (set s.views id left)) × (right ≡ y)). p.0 ∙ sym q.0) (snoc_at (set s.views id left) right y j ay))
+          (λ (p : get_elem? (set s.views id left) i ≡ some x). ⊎_elim
+          (λ (q : get_elem? (set s.views id left) j ≡ some y). old i j x y e p q hx hy)
+          (λ (q : (j ≡ length (set s.views id left)) × (right ≡ y)). absurd (crossed i x y e p q.1 hx hy))
+          (snoc_at (set s.views id left) right y j ay))
+          (λ (p : (i ≡ length (set s.views id left)) × (right ≡ x)). ⊎_elim
+          (λ (q : get_elem? (set s.views id left) j ≡ some y). absurd (crossed j y x e q p.1 hy hx))
+          (λ (q : (j ≡ length (set s.views id left)) × (right ≡ y)). p.0 ∙ sym q.0)
+          (snoc_at (set s.views id left) right y j ay))
           (snoc_at (set s.views id left) right x i ax)
 
       holder : (e : ℕ) → (i : ℕ) × (u : View I F) × (get_elem? s.views i ≡ some u) × Contains u.errands e
-          → (i : ℕ) × (u : View I F) × (get_elem? (set s.views id left ++ right ∷ []) i ≡ some u) × Contains u.errands e
+          → (i : ℕ) × (u : View I F) × (get_elem? (set s.views id left ++ right ∷ []) i ≡ some u)
+          × Contains u.errands e
       holder e x = found (ℕ_discrete x.0 id)
         where
           found : Dec (x.0 ≡ id)
-              → (i : ℕ) × (u : View I F) × (get_elem? (set s.views id left ++ right ∷ []) i ≡ some u) × Contains u.errands e
+              → (i : ℕ) × (u : View I F) × (get_elem? (set s.views id left ++ right ∷ []) i ≡ some u)
+              × Contains u.errands e
           found (yes y) = let both : x.1 ≡ v = same_there s.views id x.1 v (subst (λ (j : ℕ). get_elem? s.views j ≡ some x.1) y x.2) at in
               ⊎_elim
-              (λ (c : Contains left.errands e). (id, left, at_longer (set s.views id left) (right ∷ []) id left (here s.views id v left at), c))
-              (λ (c : Contains right.errands e). (length (set s.views id left), right, at_last (set s.views id left) right (length (set s.views id left)) refl, c))
+              (λ (c : Contains left.errands e). (
+                id,
+                left,
+                at_longer (set s.views id left) (right ∷ []) id left
+                    (here s.views id v left at),
+                c,
+              ))
+              (λ (c : Contains right.errands e). (
+                length (set s.views id left),
+                right,
+                at_last (set s.views id left) right
+                    (length (set s.views id left)) refl,
+                c,
+              ))
               (all e (subst (λ (z : View I F). Contains z.errands e) both x.3))
-          found (no n) = (x.0, x.1, at_longer (set s.views id left) (right ∷ []) x.0 x.1 (set_else s.views id x.0 left n ∙ x.2), x.3)
+          found (no n) = (
+            x.0,
+            x.1,
+            at_longer (set s.views id left) (right ∷ []) x.0 x.1
+                (set_else s.views id x.0 left n ∙ x.2),
+            x.3,
+          )
 
 lt_yes : (a b : ℕ) → a < b → nat_lt a b ≡ true
 lt_yes a b h = grind (arith, nat_tests)
@@ -181,7 +244,8 @@ module _ {I : Type 0} where
     pub first_whole : a ≡ h → c ≡ h
     pub second_whole : b ≡ h → c ≡ h
 
-  module _ (errands : I → List ℕ) (ma mb : List ℕ) (a b h : List I) (ka : Knows errands ma a h) (kb : Knows errands mb b h) where
+  module _ (errands : I → List ℕ) (ma mb : List ℕ) (a b h : List I) (ka : Knows errands ma a h)
+      (kb : Knows errands mb b h) where
     short_b : length b ≤ length h
     short_b = let e = ap (λ (l : List I). length l) kb.is in let f = length-append b kb.rest in omega arith
 
@@ -190,8 +254,20 @@ module _ {I : Type 0} where
 
     later_b : length a < length b → Both errands ma mb a b b h
     later_b lt = let r = prefix_split a ka.rest b kb.rest (sym ka.is ∙ kb.is) (omega arith) in record {
-      all = record { rest = kb.rest; is = kb.is; free = λ e x c d. ⊎_elim (λ (y : Contains ma e). ka.free e x y (subst (λ (l : List I). Contains l x) (sym r.2) (contains_right r.0 kb.rest x d))) (λ (y : Contains mb e). kb.free e x y d) (contains_append ma mb e c) };
-      first = record { rest = r.0; is = r.1; free = λ e x c d. ka.free e x c (subst (λ (l : List I). Contains l x) (sym r.2) (contains_left r.0 kb.rest x d)) };
+      all = record {
+        rest = kb.rest;
+        is = kb.is;
+        free = λ e x c d. ⊎_elim
+            (λ (y : Contains ma e). ka.free e x y
+            (subst (λ (l : List I). Contains l x) (sym r.2) (contains_right r.0 kb.rest x d)))
+            (λ (y : Contains mb e). kb.free e x y d) (contains_append ma mb e c);
+      };
+      first = record {
+        rest = r.0;
+        is = r.1;
+        free = λ e x c d. ka.free e x c
+            (subst (λ (l : List I). Contains l x) (sym r.2) (contains_left r.0 kb.rest x d));
+      };
       second = lanes.knows_all errands mb b;
       first_whole = λ e. let l = ap (λ (z : List I). length z) e in let s = short_b in absurd (omega arith);
       second_whole = λ e. e;
@@ -199,9 +275,22 @@ module _ {I : Type 0} where
 
     later_a : length b ≤ length a → Both errands ma mb a b a h
     later_a le = let r = prefix_split b kb.rest a ka.rest (sym kb.is ∙ ka.is) le in record {
-      all = record { rest = ka.rest; is = ka.is; free = λ e x c d. ⊎_elim (λ (y : Contains ma e). ka.free e x y d) (λ (y : Contains mb e). kb.free e x y (subst (λ (l : List I). Contains l x) (sym r.2) (contains_right r.0 ka.rest x d))) (contains_append ma mb e c) };
+      all = record {
+        rest = ka.rest;
+        is = ka.is;
+        free = λ e x c d. ⊎_elim
+            (λ (y : Contains ma e). ka.free e x y d)
+            (λ (y : Contains mb e). kb.free e x y
+            (subst (λ (l : List I). Contains l x) (sym r.2) (contains_right r.0 ka.rest x d)))
+            (contains_append ma mb e c);
+      };
       first = lanes.knows_all errands ma a;
-      second = record { rest = r.0; is = r.1; free = λ e x c d. kb.free e x c (subst (λ (l : List I). Contains l x) (sym r.2) (contains_left r.0 ka.rest x d)) };
+      second = record {
+        rest = r.0;
+        is = r.1;
+        free = λ e x c d. kb.free e x c
+            (subst (λ (l : List I). Contains l x) (sym r.2) (contains_left r.0 ka.rest x d));
+      };
       first_whole = λ e. e;
       second_whole = λ e. let l = ap (λ (z : List I). length z) e in
           let m = ap (λ (l : List I). length l) ka.is in let f = length-append a ka.rest in
@@ -212,10 +301,13 @@ module _ {I : Type 0} where
     meets = decided (dec_le (suc (length a)) (length b))
       where
         decided : Dec (suc (length a) ≤ length b) → Both errands ma mb a b (longer a b) h
-        decided (yes y) = subst (λ (c : List I). Both errands ma mb a b c h) (sym (longer_right a b (omega arith))) (later_b (omega arith))
-        decided (no n) = subst (λ (c : List I). Both errands ma mb a b c h) (sym (longer_left a b (omega arith))) (later_a (omega arith))
+        decided (yes y) = subst (λ (c : List I). Both errands ma mb a b c h)
+            (sym (longer_right a b (omega arith))) (later_b (omega arith))
+        decided (no n) = subst (λ (c : List I). Both errands ma mb a b c h)
+            (sym (longer_left a b (omega arith))) (later_a (omega arith))
 
-module _ {S I F : Type 0} (hist : S → List I) (same : ℕ → S → Type 0) (errands : I → List ℕ) (fits : List (List I) → Type 0) (frame : Option F) (kinds : List ℕ) where
+module _ {S I F : Type 0} (hist : S → List I) (same : ℕ → S → Type 0) (errands : I → List ℕ)
+    (fits : List (List I) → Type 0) (frame : Option F) (kinds : List ℕ) where
   pub joins : (id : ℕ) (v : View I F) (other : ℕ) (w : View I F) → Live v → Live w
       → w.turns ≡ map (λ _. no_turn) w.kinds
       → Joins (Kept hist same errands fits frame kinds) id v other w (joined v w) spent
@@ -225,13 +317,19 @@ module _ {S I F : Type 0} (hist : S → List I) (same : ℕ → S → Type 0) (e
     homes = k.homes;
     words = k.words;
     objects = object;
-    views = each_set (λ _ (z : View I F). (z ≡ spent) ⊎ (Fitted frame kinds z × Told errands z)) (set s.views id both) other spent
-        (λ j u _ e. each_set (λ _ (z : View I F). (z ≡ spent) ⊎ (Fitted frame kinds z × Told errands z)) s.views id both (λ i z _ e. k.views i z e) (inr (both_fits, both_told)) j u e) (inl refl);
+    views = each_set (λ _ (z : View I F). (z ≡ spent) ⊎ (Fitted frame kinds z × Told errands z))
+        (set s.views id both) other spent
+        (λ j u _ e. each_set
+        (λ _ (z : View I F). (z ≡ spent) ⊎ (Fitted frame kinds z × Told errands z)) s.views id both
+        (λ i z _ e. k.views i z e) (inr (both_fits, both_told)) j u e) (inl refl);
     apart = λ i j x y e ax ay hx hy. ⊎_elim
-        (λ (p : (i ≡ other) × (spent ≡ x)). absurd (none_in_nil e (subst (λ (z : View I F). Contains z.errands e) (sym p.1) hx)))
+        (λ (p : (i ≡ other) × (spent ≡ x)). absurd
+        (none_in_nil e (subst (λ (z : View I F). Contains z.errands e) (sym p.1) hx)))
         (λ (p : (i ≢ other) × (get_elem? (set s.views id both) i ≡ some x)). ⊎_elim
-        (λ (q : (j ≡ other) × (spent ≡ y)). absurd (none_in_nil e (subst (λ (z : View I F). Contains z.errands e) (sym q.1) hy)))
-        (λ (q : (j ≢ other) × (get_elem? (set s.views id both) j ≡ some y)). old i j x y e p.0 q.0 p.1 q.1 hx hy)
+        (λ (q : (j ≡ other) × (spent ≡ y)). absurd
+        (none_in_nil e (subst (λ (z : View I F). Contains z.errands e) (sym q.1) hy)))
+        (λ (q : (j ≢ other) ×
+        (get_elem? (set s.views id both) j ≡ some y)). old i j x y e p.0 q.0 p.1 q.1 hx hy)
         (at_set (set s.views id both) other j spent y ay))
         (at_set (set s.views id both) other i spent x ax);
     held = λ e lt. holder e (k.held e lt);
@@ -257,28 +355,48 @@ module _ {S I F : Type 0} (hist : S → List I) (same : ℕ → S → Type 0) (e
       seen_both p = longer_at v.seen w.seen p long
 
       meet : (p : ℕ)
-          → Both errands v.errands w.errands (seen_at v p) (seen_at w p) (seen_at (joined v w) p) (slice_index_or k.histories p [])
-      meet p = subst (λ (c : List I). Both errands v.errands w.errands (seen_at v p) (seen_at w p) c (slice_index_or k.histories p [])) (sym (seen_both p))
-          (meets errands v.errands w.errands (seen_at v p) (seen_at w p) (slice_index_or k.histories p []) (known hist same errands fits frame kinds s k id v at fit_v p) (known hist same errands fits frame kinds s k other w at_w fit_w p))
+          → Both errands v.errands w.errands (seen_at v p) (seen_at w p) (seen_at (joined v w) p)
+          (slice_index_or k.histories p [])
+      meet p = subst
+          (λ (c : List I). Both errands v.errands w.errands (seen_at v p) (seen_at w p) c
+          (slice_index_or k.histories p [])) (sym (seen_both p))
+          (meets errands v.errands w.errands (seen_at v p) (seen_at w p) (slice_index_or k.histories p [])
+          (known hist same errands fits frame kinds s k id v at fit_v p)
+          (known hist same errands fits frame kinds s k other w at_w fit_w p))
 
       both_fits : Fitted frame kinds (joined v w)
       both_fits = record { same_frame = fit_v.same_frame; same_kinds = fit_v.same_kinds; each_seen = length_longer v.seen w.seen ∙ fit_v.each_seen; each_turn = fit_v.each_turn }
 
       both_told : Told errands (joined v w)
-      both_told zero a e o = subst (λ (z : Past I). Knows errands z.mine (get_or z.seen o []) (seen_at (joined v w) o)) (some-injective _ _ e) ((meet o).first)
-      both_told (suc zero) a e o = subst (λ (z : Past I). Knows errands z.mine (get_or z.seen o []) (seen_at (joined v w) o)) (some-injective _ _ e) ((meet o).second)
+      both_told zero a e o = subst
+          (λ (z : Past I). Knows errands z.mine (get_or z.seen o []) (seen_at (joined v w) o))
+          (some-injective _ _ e) ((meet o).first)
+      both_told (suc zero) a e o = subst
+          (λ (z : Past I). Knows errands z.mine (get_or z.seen o []) (seen_at (joined v w) o))
+          (some-injective _ _ e) ((meet o).second)
       both_told (suc (suc n)) a e o = absurd (some-ne-none a (sym e))
 
       object : (p : ℕ) → p < length kinds
-          → ObjectKept hist (same p) errands (slice_index s.words (3 * p)) (slice_index s.words (3 * p + 1)) (slice_index s.words (3 * p + 2)) (slice_index_or s.homes p none) (slice_index_or k.histories p []) (map (lane p) (set (set s.views id (joined v w)) other spent))
+          → ObjectKept hist (same p) errands (slice_index s.words (3 * p)) (slice_index s.words (3 * p + 1))
+          (slice_index s.words (3 * p + 2)) (slice_index_or s.homes p none)
+          (slice_index_or k.histories p []) (map (lane p) (set (set s.views id (joined v w)) other spent))
       object p near = let h = slice_index_or k.histories p [] in let ls = map (lane p) s.views in
           let there = at_map (lane p) s.views id v at in let m = meet p in
-          let one = lanes.relearns hist (same p) errands (slice_index s.words (3 * p)) (slice_index s.words (3 * p + 1)) (slice_index s.words (3 * p + 2)) (slice_index_or s.homes p none) h ls id (lane p v) (lane p (joined v w)) (k.objects p near) there refl m.first_whole m.all in
-          let is_set : map (lane p) (set s.views id (joined v w)) ≡ set ls id (lane p (joined v w)) = map-set (lane p) s.views id (joined v w) in
+          let one = lanes.relearns hist (same p) errands (slice_index s.words (3 * p))
+          (slice_index s.words (3 * p + 1)) (slice_index s.words (3 * p + 2))
+          (slice_index_or s.homes p none) h ls id (lane p v) (lane p (joined v w))
+          (k.objects p near) there refl m.first_whole m.all in
+          let is_set : map (lane p) (set s.views id (joined v w)) ≡ set ls id (lane p (joined v w)) = map-set
+          (lane p) s.views id (joined v w) in
           let two = lanes.spends hist (same p) errands (slice_index s.words (3 * p)) (slice_index s.words (3 * p + 1)) (slice_index s.words (3 * p + 2)) (slice_index_or s.homes p none) h (set ls id (lane p (joined v w))) other (lane p w) id (lane p (joined v w)) one
-          (set_else ls id other (lane p (joined v w)) ne ∙ at_map (lane p) s.views other w at_w) (ap (λ (l : List Turn). get_or l p no_turn) free ∙ map_one no_turn w.kinds p) (λ e. ne (sym e)) (here ls id (lane p v) (lane p (joined v w)) there) m.second_whole in
-          subst (λ (l : List (Lane I)). ObjectKept hist (same p) errands (slice_index s.words (3 * p)) (slice_index s.words (3 * p + 1)) (slice_index s.words (3 * p + 2)) (slice_index_or s.homes p none) h l)
-          (sym (map-set (lane p) (set s.views id (joined v w)) other spent ∙ ap (λ (l : List (Lane I)). set l other (lane {F = F} p spent)) is_set)) two
+          (set_else ls id other (lane p (joined v w)) ne ∙ at_map (lane p) s.views other w at_w)
+          (ap (λ (l : List Turn). get_or l p no_turn) free ∙ map_one no_turn w.kinds p) (λ e. ne (sym e))
+          (here ls id (lane p v) (lane p (joined v w)) there) m.second_whole in
+          subst (λ (l : List (Lane I)). ObjectKept hist (same p) errands (slice_index s.words (3 * p))
+          (slice_index s.words (3 * p + 1)) (slice_index s.words (3 * p + 2))
+          (slice_index_or s.homes p none) h l)
+          (sym (map-set (lane p) (set s.views id (joined v w)) other spent ∙ ap
+          (λ (l : List (Lane I)). set l other (lane {F = F} p spent)) is_set)) two
 
       old : (i j : ℕ) (x y : View I F) (e : ℕ) → i ≢ other → j ≢ other
           → get_elem? (set s.views id (joined v w)) i ≡ some x
@@ -287,32 +405,57 @@ module _ {S I F : Type 0} (hist : S → List I) (same : ℕ → S → Type 0) (e
       old i j x y e ni nj ax ay hx hy = ⊎_elim
           (λ (p : (i ≡ id) × (joined v w ≡ x)). ⊎_elim
           (λ (q : (j ≡ id) × (joined v w ≡ y)). p.0 ∙ sym q.0)
-          (λ (q : (j ≢ id) × (get_elem? s.views j ≡ some y)). p.0 ∙ with_both j y e nj q.1 hy (subst (λ (z : View I F). Contains z.errands e) (sym p.1) hx))
+          (λ (q : (j ≢ id) × (get_elem? s.views j ≡ some y)). p.0 ∙ with_both j y e nj q.1 hy
+          (subst (λ (z : View I F). Contains z.errands e) (sym p.1) hx))
           (at_set s.views id j (joined v w) y ay))
           (λ (p : (i ≢ id) × (get_elem? s.views i ≡ some x)). ⊎_elim
-          (λ (q : (j ≡ id) × (joined v w ≡ y)). sym (with_both i x e ni p.1 hx (subst (λ (z : View I F). Contains z.errands e) (sym q.1) hy)) ∙ sym q.0)
+          (λ (q : (j ≡ id) × (joined v w ≡ y)). sym
+          (with_both i x e ni p.1 hx (subst (λ (z : View I F). Contains z.errands e) (sym q.1) hy))
+          ∙ sym q.0)
           (λ (q : (j ≢ id) × (get_elem? s.views j ≡ some y)). k.apart i j x y e p.1 q.1 hx hy)
           (at_set s.views id j (joined v w) y ay))
           (at_set s.views id i (joined v w) x ax)
         where
           with_both : (j : ℕ) (y : View I F) (e : ℕ) → j ≢ other → get_elem? s.views j ≡ some y
               → Contains y.errands e → Contains (v.errands ++ w.errands) e → id ≡ j
-          with_both j y e nj ay hy c = ⊎_elim (λ (d : Contains v.errands e). k.apart id j v y e at ay d hy) (λ (d : Contains w.errands e). absurd (nj (sym (k.apart other j w y e at_w ay d hy)))) (contains_append v.errands w.errands e c)
+          with_both j y e nj ay hy c = ⊎_elim (λ (d : Contains v.errands e). k.apart id j v y e at ay d hy)
+              (λ (d : Contains w.errands e). absurd (nj (sym (k.apart other j w y e at_w ay d hy))))
+              (contains_append v.errands w.errands e c)
 
       holder : (e : ℕ) → (i : ℕ) × (u : View I F) × (get_elem? s.views i ≡ some u) × Contains u.errands e
-          → (i : ℕ) × (u : View I F) × (get_elem? (set (set s.views id (joined v w)) other spent) i ≡ some u) × Contains u.errands e
+          → (i : ℕ) × (u : View I F) × (get_elem? (set (set s.views id (joined v w)) other spent) i ≡ some u)
+          × Contains u.errands e
       holder e x = found (ℕ_discrete x.0 other) (ℕ_discrete x.0 id)
         where
           there : get_elem? (set (set s.views id (joined v w)) other spent) id ≡ some (joined v w)
-          there = set_else (set s.views id (joined v w)) other id spent (λ e. ne (sym e)) ∙ here s.views id v (joined v w) at
+          there = set_else (set s.views id (joined v w)) other id spent (λ e. ne (sym e)) ∙ here s.views id v
+              (joined v w) at
 
           found : Dec (x.0 ≡ other) → Dec (x.0 ≡ id)
-              → (i : ℕ) × (u : View I F) × (get_elem? (set (set s.views id (joined v w)) other spent) i ≡ some u) × Contains u.errands e
-          found (yes y) _ = let is : x.1 ≡ w = same_there s.views other x.1 w (subst (λ (j : ℕ). get_elem? s.views j ≡ some x.1) y x.2) at_w in
-              (id, joined v w, there, contains_right v.errands w.errands e (subst (λ (z : View I F). Contains z.errands e) is x.3))
-          found (no n) (yes y) = let is : x.1 ≡ v = same_there s.views id x.1 v (subst (λ (j : ℕ). get_elem? s.views j ≡ some x.1) y x.2) at in
-              (id, joined v w, there, contains_left v.errands w.errands e (subst (λ (z : View I F). Contains z.errands e) is x.3))
-          found (no n) (no m) = (x.0, x.1, set_else (set s.views id (joined v w)) other x.0 spent n ∙ (set_else s.views id x.0 (joined v w) m ∙ x.2), x.3)
+              → (i : ℕ) × (u : View I F) ×
+              (get_elem? (set (set s.views id (joined v w)) other spent) i ≡ some u)
+              × Contains u.errands e
+          found (yes y) _ = let is : x.1 ≡ w = same_there s.views other x.1 w (subst (λ (j : ℕ). get_elem? s.views j ≡ some x.1) y x.2) at_w in (
+            id,
+            joined v w,
+            there,
+            contains_right v.errands w.errands e
+                (subst (λ (z : View I F). Contains z.errands e) is x.3),
+          )
+          found (no n) (yes y) = let is : x.1 ≡ v = same_there s.views id x.1 v (subst (λ (j : ℕ). get_elem? s.views j ≡ some x.1) y x.2) at in (
+            id,
+            joined v w,
+            there,
+            contains_left v.errands w.errands e
+                (subst (λ (z : View I F). Contains z.errands e) is x.3),
+          )
+          found (no n) (no m) = (
+            x.0,
+            x.1,
+            set_else (set s.views id (joined v w)) other x.0 spent n ∙
+                (set_else s.views id x.0 (joined v w) m ∙ x.2),
+            x.3,
+          )
 
 module _ {S I F : Type 0} where
   same_many : (words words' : ℕ) (m n : Me S (View I F)) → AtRest words m → AtRest words' n → words ≡ words'
@@ -323,24 +466,29 @@ module _ {S I F : Type 0} where
       → AtRest words' n → words ≡ words' → Counts ls m.0 → Counts ms n.0
       → ((o : ℕ) → o < 17 → slice_index ns o ≡ max (slice_index ls o) (slice_index ms o))
       → m'.0 ≡ told (joined m.0 n.0) → Counts ns m'.0
-  join_counts words words' m n m' ls ms ns a b e c d f is = subst (λ (v : View I F). Counts ns v) (sym is) (λ o lt.
+  join_counts words words' m n m' ls ms ns a b e c d f is = subst (λ (v : View I F). Counts ns v) (sym is)
+      (λ o lt.
       let few = a.few in let k = same_many words words' m n a b e in let p = a.places in let q = b.places in
       let x : slice_index ls o ≡ length (seen_at m.0 o) = c o lt in
       let y : slice_index ms o ≡ length (seen_at n.0 o) = d o (omega arith) in
-      f o (omega arith) ∙ ((λ i. max (x i) (y i)) ∙ (sym (length_of_longer (seen_at m.0 o) (seen_at n.0 o)) ∙ ap (λ (l : List I). length l) (sym (longer_at m.0.seen n.0.seen o (omega arith))))))
+      f o (omega arith) ∙
+      ((λ i. max (x i) (y i)) ∙
+      (sym (length_of_longer (seen_at m.0 o) (seen_at n.0 o)) ∙ ap (λ (l : List I). length l)
+      (sym (longer_at m.0.seen n.0.seen o (omega arith))))))
 
   pub join_rests : (words words' : ℕ) (m m1 m2 : Me S (View I F)) (w : View I F) → AtRest words m
       → words ≡ words' → m1 ≡ (joined m.0 w, m.1) → m2 ≡ (told m1.0, m1.1) → AtRest words' m2
-  join_rests words words' m m1 m2 w r e is is' = subst (λ (x : Me S (View I F)). AtRest words' x) (sym (is' ∙ ap (λ (x : Me S (View I F)). (told x.0, x.1)) is)) record {
-    words_are = sym e ∙ r.words_are;
-    none_out = r.none_out;
-    live = r.live;
-    no_turns = r.no_turns;
-    some_object = r.some_object;
-    few = r.few;
-    places = length_longer m.0.seen w.seen ∙ r.places;
-    told = refl;
-  }
+  join_rests words words' m m1 m2 w r e is is' = subst (λ (x : Me S (View I F)). AtRest words' x)
+      (sym (is' ∙ ap (λ (x : Me S (View I F)). (told x.0, x.1)) is)) record {
+        words_are = sym e ∙ r.words_are;
+        none_out = r.none_out;
+        live = r.live;
+        no_turns = r.no_turns;
+        some_object = r.some_object;
+        few = r.few;
+        places = length_longer m.0.seen w.seen ∙ r.places;
+        told = refl;
+      }
 
   -- what a join tells
   -- what is newly seen by a join has no entry of an errand of either pass
@@ -352,5 +500,12 @@ module _ {S I F : Type 0} where
       let is : m2.0 ≡ told (joined v w) = f ∙ ap (λ (m : Me S (View I F)). told m.0) e in
       subst (λ (u : View I F). SeesOn errands v u × SeesOn errands w u) (sym is) (
         (refl, refl, λ o. t' 0 record { seen = v.seen; mine = v.errands } refl o),
-        (same_frame, same_kinds, λ o. subst (λ (x : Option F). Knows (errands_under errands x) w.errands (seen_at w o) (seen_at (told (joined v w)) o)) (sym same_frame) (t' 1 record { seen = w.seen; mine = w.errands } refl o)),
+        (
+          same_frame,
+          same_kinds,
+          λ o. subst
+              (λ (x : Option F). Knows (errands_under errands x) w.errands (seen_at w o)
+              (seen_at (told (joined v w)) o)) (sym same_frame)
+              (t' 1 record { seen = w.seen; mine = w.errands } refl o),
+        ),
       )

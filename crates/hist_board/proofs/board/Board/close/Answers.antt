@@ -15,7 +15,10 @@ returns g c = let h = g.S.Held in let m0 = c.args.last.seat.me in let seat = c.h
     let counts = e.counts in (
       seat.me.0,
       sees_on h.errands m0 seat.me _ held,
-      subst (λ (objects : List g.row.S.Denot). AllSeen h.history h.frame h.kind h.fits seat.me.0 objects) (sym c.unload.ensures)
-          (finishes h.history h.frame h.kind h.errands h.fits c.args.self.table.shared.key.value.items _ (slots_items c.close_with-closed.result.slots) seat.id seat.me.0 (ap (λ f. is_some f) held.same.0 ∙ c.args.last.rest.live) (omega arith)
+      subst (λ (objects : List g.row.S.Denot). AllSeen h.history h.frame h.kind h.fits seat.me.0 objects)
+          (sym c.unload.ensures)
+          (finishes h.history h.frame h.kind h.errands h.fits c.args.self.table.shared.key.value.items _
+          (slots_items c.close_with-closed.result.slots) seat.id seat.me.0
+          (ap (λ f. is_some f) held.same.0 ∙ c.args.last.rest.live) (omega arith)
           (all_served h.errands m0 seat.me _ (omega arith) held) e.values.2),
     )

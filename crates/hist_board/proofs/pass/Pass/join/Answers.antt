@@ -17,7 +17,8 @@ load-requires g c = let h = g.S.Held in let r = c.args.self.now.rest in let w = 
 pub invariant_of-self : goal.invariant_of-self
 invariant_of-self g c = let s = c.join_seat.ensures in let l = c.load.ensures in
     let w = c.args.other.seat.me.0 in let m = c.args.self.now.seat.me in record {
-      rest = join_rests _ _ m c.join_seat.new.seat.me c.load.new.seat.me w c.args.self.now.rest (sym (ap (λ t. t.words) (l.0 ∙ s.0))) s.2 (λ i. (l.2.1 i, l.2.0 i));
+      rest = join_rests _ _ m c.join_seat.new.seat.me c.load.new.seat.me w c.args.self.now.rest
+          (sym (ap (λ t. t.words) (l.0 ∙ s.0))) s.2 (λ i. (l.2.1 i, l.2.0 i));
       sized = c.longest-self.ensures.size;
       counted = join_counts _ _ m c.args.other.seat.me c.load.new.seat.me c.args.self.now.lengths c.args.other.lengths c.longest-self.result c.args.self.now.rest c.args.other.rest (ap (λ t. t.words) (c.requires.board.0.0 ∙ sym c.requires.board.1.0)) c.args.self.now.counted c.args.other.counted c.longest-self.ensures.each
           (l.2.1 ∙ ap (λ m. told m.0) s.2);

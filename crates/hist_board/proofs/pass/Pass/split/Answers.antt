@@ -12,7 +12,9 @@ split_seat-seat-requires g c = let h = g.S.Held in let r = c.args.self.now.rest 
 
 pub invariant_of-result : goal.invariant_of-result
 invariant_of-result g c = let s = c.split_seat-seat.ensures in record {
-  rest = made_at_rest _ _ c.args.self.now.seat.me c.split_seat-seat.result.me (handed c.args.self.now.seat.me.0) c.args.self.now.rest (sym (ap (λ t. t.words) s.3)) s.4 refl refl refl refl refl;
+  rest = made_at_rest _ _ c.args.self.now.seat.me c.split_seat-seat.result.me
+      (handed c.args.self.now.seat.me.0) c.args.self.now.rest
+      (sym (ap (λ t. t.words) s.3)) s.4 refl refl refl refl refl;
   sized = c.args.self.now.sized;
   counted = subst (λ m. Counts c.args.self.now.lengths m.0) (sym s.4) c.args.self.now.counted;
 }
