@@ -3,7 +3,7 @@ use Rattle.std.proofs.Common.{◌≡◌, ℕ, List, [], ◌∷◌, sym, ap, ◌�
 use Rattle.std.specs.Prelude.{Contains}
 use Rattle.hist_board.specs.Rule.{handed, handing, least_errand, other_errands, all_errands}
 use Rattle.hist_board.specs.declared.view.View.{View}
-use Rattle.hist_board.proofs.Lanes.{contains_first}
+use Rattle.hist_board.proofs.Contained.{contains_first}
 use Rattle.hist_board.proofs.Ends.{least_number, other_numbers, all_are}
 
 has_one : (errands : List ℕ) (e : ℕ) → errands ≡ e ∷ [] → Contains errands e

@@ -13,7 +13,7 @@ use Rattle.hist_board.specs.Rule.{Lane, Knows, Fitted, Live, turn_at, seen_at, l
 use Rattle.hist_board.specs.Plays.{Possible, drawn, looked, taken, grown, passed}
 use Rattle.hist_board.specs.declared.view.View.{View}
 use Rattle.hist_board.proofs.Lanes as lanes
-use Rattle.hist_board.proofs.Lanes.{off, within}
+use Rattle.hist_board.proofs.Lanes.{within}
 use Rattle.hist_board.proofs.Moves.{set_same, at_or, map_at, fitted, moved, still, same_words, known}
 
 module _ {S I F : Type 0} (hist : S → List I) (frame : S → F) (kind : S → ℕ) (errands : F → I → List ℕ)

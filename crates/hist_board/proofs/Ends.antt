@@ -13,9 +13,11 @@ use Rattle.hist_board.specs.Plays.{recalled}
 use Rattle.hist_board.specs.Passes.{AllSeen, OneFrame, FirstWords}
 use Rattle.hist_board.specs.declared.view.View.{View}
 use Rattle.hist_board.proofs.Lanes as lanes
-use Rattle.hist_board.proofs.Lanes.{off, within, none_in_nil, contains_cons, contains_more, contains_first}
+use Rattle.hist_board.proofs.Contained.{off, none_in_nil, contains_cons, contains_more, contains_first}
+use Rattle.hist_board.proofs.Lanes.{within}
 use Rattle.hist_board.proofs.Moves.{set_same, at_or, fitted, moved, same_words, none_told}
-use Rattle.hist_board.proofs.Meeting.{splits, joins}
+use Rattle.hist_board.proofs.Splitting.{splits}
+use Rattle.hist_board.proofs.Meeting.{joins}
 use Rattle.hist_board.proofs.Turning.{map_one, length_one}
 
 module _ {A : Type 0} where

@@ -13,7 +13,8 @@ use Rattle.hist_board.specs.Turn.{Past}
 use Rattle.hist_board.specs.Rule.{Lane, Knows, ObjectKept, Kept, Fitted, Live, Told, seen_at, lane, spent}
 use Rattle.hist_board.specs.declared.view.View.{View}
 use Rattle.hist_board.proofs.Lanes as lanes
-use Rattle.hist_board.proofs.Lanes.{off, within, here, same_there, each_set}
+use Rattle.hist_board.proofs.Contained.{off}
+use Rattle.hist_board.proofs.Lanes.{within, here, same_there, each_set}
 
 pub set_same : {A : Type 0} (l : List A) (i : ℕ) (d : A) → set l i (get_or l i d) ≡ l
 set_same [] i d = refl
