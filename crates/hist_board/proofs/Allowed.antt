@@ -323,15 +323,15 @@ module _ {S I F : Type 0} where
   -- what a look tells at the object o
   pub looked_here : (errands : F → I → List ℕ) (slots o t n : ℕ) (m m' : Me S (View I F))
       → turn_at m.0 o ≡ waits t → n ≡ t → looked errands (step slots (3 * o + 1) 0 0 none) m n m'
-      → (h : List I) × Knows (errands_under errands m.0.frame) m.0.errands (seen_at m.0 o) h ×
-      (m' ≡ (with_turn o (served t) (with_seen o h m.0), m.1))
+      → (h : List I) × Knows (errands_under errands m.0.frame) m.0.errands (seen_at m.0 o) h
+      × (m' ≡ (with_turn o (served t) (with_seen o h m.0), m.1))
   looked_here errands slots o t n m m' waiting is l = at l.1.0 (omega (arith, l.1.1)) l.1.2
     where
       at : (p : ℕ) → p ≡ o
           → (n ≡ (turn_at m.0 p).ticket → (h : List I) × Knows (errands_under errands m.0.frame) m.0.errands
           (seen_at m.0 p) h × (m'.0 ≡ with_turn p (served n) (with_seen p h m.0)))
-          → (h : List I) × Knows (errands_under errands m.0.frame) m.0.errands (seen_at m.0 o) h ×
-          (m' ≡ (with_turn o (served t) (with_seen o h m.0), m.1))
+          → (h : List I) × Knows (errands_under errands m.0.frame) m.0.errands (seen_at m.0 o) h
+          × (m' ≡ (with_turn o (served t) (with_seen o h m.0), m.1))
       at p e hit = let hit' = subst (λ (q : ℕ). n ≡ (turn_at m.0 q).ticket → (h : List I) × Knows (errands_under errands m.0.frame) m.0.errands (seen_at m.0 q) h × (m'.0 ≡ with_turn q (served n) (with_seen q h m.0))) e hit in
           let r = hit' (is ∙ sym (ap (λ (u : Turn). u.ticket) waiting)) in
           (r.0, r.1, λ i. ((r.2 ∙ ap (λ (k : ℕ). with_turn o (served k) (with_seen o r.0 m.0)) is) i, l.0 i))

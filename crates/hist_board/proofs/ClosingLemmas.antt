@@ -25,8 +25,8 @@ module _ {S I F : Type 0} (errands : F → I → List ℕ) where
   }
 
   pub closing_more : (m0 m m' : Me S (View I F)) (i : ℕ) → Closing errands m0 i m → i < length m0.0.kinds
-      → (h : List I) × (t : ℕ) × Knows (errands_under errands m.0.frame) m.0.errands (seen_at m.0 i) h ×
-      (m'.0 ≡ staged i (served t) h m.0)
+      → (h : List I) × (t : ℕ) × Knows (errands_under errands m.0.frame) m.0.errands (seen_at m.0 i) h
+      × (m'.0 ≡ staged i (served t) h m.0)
       → m'.1 ≡ m.1 → Closing errands m0 (i + 1) m'
   closing_more m0 m m' i c near told out = let h = told.0 in let t = told.1 in let p0 = c.places.0 in
       let p1 = c.places.1 in
@@ -45,9 +45,9 @@ module _ {S I F : Type 0} (errands : F → I → List ℕ) where
       }
     where
       kept : (o : ℕ) → o < i + 1 → Dec (o ≡ i)
-          → ((turn_at (staged i (served told.1) told.0 m.0) o).has ≡ true) ×
-          ((turn_at (staged i (served told.1) told.0 m.0) o).whole ≡ true) ×
-          ((turn_at (staged i (served told.1) told.0 m.0) o).out ≡ false)
+          → ((turn_at (staged i (served told.1) told.0 m.0) o).has ≡ true)
+          × ((turn_at (staged i (served told.1) told.0 m.0) o).whole ≡ true)
+          × ((turn_at (staged i (served told.1) told.0 m.0) o).out ≡ false)
       kept o lt (yes y) = let p1 = c.places.1 in
           let at : get_or (set m.0.turns i (served told.1)) o no_turn ≡ served told.1 = ap
           (λ (k : ℕ). get_or (set m.0.turns i (served told.1)) k no_turn) y
@@ -92,8 +92,8 @@ take_snoc l i a e = rw add-one (take_suc l i a e)
 pub emptied : (fs : List Bool) (i n : ℕ) → i < length fs →
     ((k : ℕ) → i ≤ k → k < n → get_or fs k false ≡ true)
     → ((k : ℕ) → k < i → get_or fs k false ≡ false)
-    → ((k : ℕ) → i + 1 ≤ k → k < n → get_or (set fs i false) k false ≡ true) ×
-    ((k : ℕ) → k < i + 1 → get_or (set fs i false) k false ≡ false)
+    → ((k : ℕ) → i + 1 ≤ k → k < n → get_or (set fs i false) k false ≡ true)
+    × ((k : ℕ) → k < i + 1 → get_or (set fs i false) k false ≡ false)
 emptied fs i n near full out = (
   (λ k lo hi. get_or-set_other fs i k false false (λ e. omega arith) ∙ full k (omega arith) hi),
   (λ k lo. decided k lo (ℕ_discrete k i)),

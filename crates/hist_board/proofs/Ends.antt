@@ -275,8 +275,8 @@ module _ {S I F : Type 0} (hist : S → List I) (frame : S → F) (kind : S → 
   -- a view that is served everywhere has all of every history
   pub finishes : (words : List ℕ) (objects : List S) (id : ℕ) (v : View I F) → Live v
       → length objects ≡ length v.kinds
-      → ((o : ℕ) → o < length v.kinds → ((turn_at v o).has ≡ true) × ((turn_at v o).whole ≡ true) ×
-      ((turn_at v o).out ≡ false))
+      → ((o : ℕ) → o < length v.kinds → ((turn_at v o).has ≡ true) × ((turn_at v o).whole ≡ true)
+      × ((turn_at v o).out ≡ false))
       → Final (Seen R id v) words objects → AllSeen hist frame kind fits v objects
   finishes words objects id v live long turns end = let s = end.0 in let k = end.1.0 in let at = end.1.1 in
       let fit = fitted hist alike E Fit fr kinds s k id v at live in

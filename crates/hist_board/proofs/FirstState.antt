@@ -33,9 +33,9 @@ module _ {S I : Type 0} (hist : S → List I) where
   pub more_words : (objects : List S) (words lengths : List ℕ) (i n : ℕ) (a : S) → i < 17 → length words ≡ 51
       → length lengths ≡ 17 → Zeros words → Below objects words lengths i → i < length objects
       → a ≡ get_or objects i a → n ≡ length (hist a)
-      → (length (set words (3 * i + 2) n) ≡ 51) × (length (set lengths i n) ≡ 17) ×
-      ((o : ℕ) → get_or (set words (3 * i + 2) n) (3 * o) 0 ≡ 0) ×
-      ((o : ℕ) → get_or (set words (3 * i + 2) n) (3 * o + 1) 0 ≡ 0) × Below objects
+      → (length (set words (3 * i + 2) n) ≡ 51) × (length (set lengths i n) ≡ 17)
+      × ((o : ℕ) → get_or (set words (3 * i + 2) n) (3 * o) 0 ≡ 0)
+      × ((o : ℕ) → get_or (set words (3 * i + 2) n) (3 * o + 1) 0 ≡ 0) × Below objects
       (set words (3 * i + 2) n) (set lengths i n) (i + 1)
   more_words objects words lengths i n a few long sized zero_at below near is len = (
     length-set words (3 * i + 2) n ∙ long,
@@ -46,12 +46,12 @@ module _ {S I : Type 0} (hist : S → List I) where
   )
     where
       decided : (o : ℕ) (x : S) → o < i + 1 → get_elem? objects o ≡ some x → Dec (o ≡ i)
-          → (get_or (set words (3 * i + 2) n) (3 * o + 2) 0 ≡ length (hist x)) ×
-          (get_or (set lengths i n) o 0 ≡ length (hist x))
+          → (get_or (set words (3 * i + 2) n) (3 * o + 2) 0 ≡ length (hist x))
+          × (get_or (set lengths i n) o 0 ≡ length (hist x))
       decided o x lt e (yes y) = let same : a ≡ x = some-injective a x (sym (at_index objects i a near is) ∙ subst (λ (k : ℕ). get_elem? objects k ≡ some x) y e) in
           let m : n ≡ length (hist x) = len ∙ ap (λ (z : S). length (hist z)) same in
-          subst (λ (k : ℕ). (get_or (set words (3 * i + 2) n) (3 * k + 2) 0 ≡ length (hist x)) ×
-          (get_or (set lengths i n) k 0 ≡ length (hist x))) (sym y) (
+          subst (λ (k : ℕ). (get_or (set words (3 * i + 2) n) (3 * k + 2) 0 ≡ length (hist x))
+          × (get_or (set lengths i n) k 0 ≡ length (hist x))) (sym y) (
             get_or-set_same words (3 * i + 2) n 0 (omega arith) ∙ m,
             get_or-set_same lengths i n 0
                 (omega arith) ∙ m,
@@ -64,8 +64,8 @@ module _ {S I : Type 0} (hist : S → List I) where
 
   pub first_words_of : (objects : List S) (words : List ℕ) (n : ℕ) → n ≡ length objects → n ≤ 17
       → length words ≡ 51
-      → ((o : ℕ) (x : S) → get_elem? objects o ≡ some x → (slice_index words (3 * o) ≡ 0) ×
-      (slice_index words (3 * o + 1) ≡ 0) × (slice_index words (3 * o + 2) ≡ length (hist x)))
+      → ((o : ℕ) (x : S) → get_elem? objects o ≡ some x → (slice_index words (3 * o) ≡ 0)
+      × (slice_index words (3 * o + 1) ≡ 0) × (slice_index words (3 * o + 2) ≡ length (hist x)))
       → FirstWords hist objects (take (3 * n) words)
   first_words_of objects words n is few long each = (
     (let l = length-take (3 * n) words in omega arith),

@@ -157,8 +157,8 @@ module _ {S I F : Type 0} (hist : S → List I) (same : ℕ → S → Type 0) (e
         (λ (p : (i ≢ other) × (get_elem? (set s.views id both) i ≡ some x)). ⊎_elim
         (λ (q : (j ≡ other) × (spent ≡ y)). absurd
         (none_in_nil e (subst (λ (z : View I F). Contains z.errands e) (sym q.1) hy)))
-        (λ (q : (j ≢ other) ×
-        (get_elem? (set s.views id both) j ≡ some y)). old i j x y e p.0 q.0 p.1 q.1 hx hy)
+        (λ (q : (j ≢ other)
+        × (get_elem? (set s.views id both) j ≡ some y)). old i j x y e p.0 q.0 p.1 q.1 hx hy)
         (at_set (set s.views id both) other j spent y ay))
         (at_set (set s.views id both) other i spent x ax);
     held = λ e lt. holder e (k.held e lt);
@@ -261,8 +261,8 @@ module _ {S I F : Type 0} (hist : S → List I) (same : ℕ → S → Type 0) (e
               (joined v w) at
 
           found : Dec (x.0 ≡ other) → Dec (x.0 ≡ id)
-              → (i : ℕ) × (u : View I F) ×
-              (get_elem? (set (set s.views id (joined v w)) other spent) i ≡ some u)
+              → (i : ℕ) × (u : View I F)
+              × (get_elem? (set (set s.views id (joined v w)) other spent) i ≡ some u)
               × Contains u.errands e
           found (yes y) _ = let is : x.1 ≡ w = same_there s.views other x.1 w (subst (λ (j : ℕ). get_elem? s.views j ≡ some x.1) y x.2) at_w in (
             id,

@@ -59,15 +59,15 @@ module _ {S I F : Type 0} where
 
   pub holds_turn : (errands : F → I → List ℕ) (o t : ℕ) (m0 m1 m2 : Me S (View I F))
       → m1 ≡ (with_turn o (waits t) m0.0, m0.1)
-      → (h : List I) × Knows (errands_under errands m1.0.frame) m1.0.errands (seen_at m1.0 o) h ×
-      (m2 ≡ (with_turn o (served t) (with_seen o h m1.0), m1.1))
-      → (h : List I) × (t : ℕ) × Knows (errands_under errands m0.0.frame) m0.0.errands (seen_at m0.0 o) h ×
-      (m2.0 ≡ staged o (served t) h m0.0)
+      → (h : List I) × Knows (errands_under errands m1.0.frame) m1.0.errands (seen_at m1.0 o) h
+      × (m2 ≡ (with_turn o (served t) (with_seen o h m1.0), m1.1))
+      → (h : List I) × (t : ℕ) × Knows (errands_under errands m0.0.frame) m0.0.errands (seen_at m0.0 o) h
+      × (m2.0 ≡ staged o (served t) h m0.0)
   holds_turn errands o t m0 m1 m2 e = subst
       (λ (m1 : Me S (View I F)). (h : List I) × Knows (errands_under errands m1.0.frame) m1.0.errands
       (seen_at m1.0 o) h × (m2 ≡ (with_turn o (served t) (with_seen o h m1.0), m1.1))
-      → (h : List I) × (t : ℕ) × Knows (errands_under errands m0.0.frame) m0.0.errands (seen_at m0.0 o) h ×
-      (m2.0 ≡ staged o (served t) h m0.0)) (sym e)
+      → (h : List I) × (t : ℕ) × Knows (errands_under errands m0.0.frame) m0.0.errands (seen_at m0.0 o) h
+      × (m2.0 ≡ staged o (served t) h m0.0)) (sym e)
       (λ s. (
         s.0,
         t,
@@ -91,8 +91,8 @@ module _ {S I F : Type 0} (hist : S → List I) (frame : S → F) (kind : S → 
       × Lent hist frame kind errands fits v o x × (n ≡ length (hist x))
 
   abbrev Taken : ℕ → Me S (View I F) → Me S (View I F) → Type 0
-  Taken o m m' = (x : S) × (m' ≡ (with_turn o (borrows (turn_at m.0 o).ticket) m.0, (o, x) ∷ m.1)) ×
-      (hist x ≡ seen_at m.0 o) × IsAs frame kind m.0.frame (slice_index m.0.kinds o) x
+  Taken o m m' = (x : S) × (m' ≡ (with_turn o (borrows (turn_at m.0 o).ticket) m.0, (o, x) ∷ m.1))
+      × (hist x ≡ seen_at m.0 o) × IsAs frame kind m.0.frame (slice_index m.0.kinds o) x
 
   opened_at : (words o t n : ℕ) (v : View I F) (c : List (ℕ × S)) (h : List I) (m : Me S (View I F))
       → AtRest words (v, c) → o < length v.kinds
@@ -133,8 +133,8 @@ module _ {S I F : Type 0} (hist : S → List I) (frame : S → F) (kind : S → 
 
   pub opened : (words o t n : ℕ) (m0 m1 m2 m : Me S (View I F)) → AtRest words m0 → o < length m0.0.kinds
       → m1 ≡ (with_turn o (waits t) m0.0, m0.1)
-      → (h : List I) × Knows (errands_under errands m1.0.frame) m1.0.errands (seen_at m1.0 o) h ×
-      (m2 ≡ (with_turn o (served t) (with_seen o h m1.0), m1.1))
+      → (h : List I) × Knows (errands_under errands m1.0.frame) m1.0.errands (seen_at m1.0 o) h
+      × (m2 ≡ (with_turn o (served t) (with_seen o h m1.0), m1.1))
       → Taken o m2 m → (hs : List (List I)) × Possible errands fits m2.0 o (seen_at m2.0 o) hs
       → n ≡ length (seen_at m2.0 o) → Opened m0.0 o m n
   opened words o t n m0 m1 m2 m r near e1 =
@@ -154,8 +154,8 @@ module _ {S I F : Type 0} (hist : S → List I) (frame : S → F) (kind : S → 
   -- what the work left may be given back, or added first
   pub may_grow : (o : ℕ) (t : Turn) (v : View I F) (x y : S) → o < length v.seen
       → Keeps hist frame kind errands fits v o x y
-      → IsAs frame kind v.frame (slice_index v.kinds o) y ×
-      ((hist y ≡ seen_at (staged o t (hist x) v) o) ⊎ Grown hist errands fits (staged o t (hist x) v) o y)
+      → IsAs frame kind v.frame (slice_index v.kinds o) y
+      × ((hist y ≡ seen_at (staged o t (hist x) v) o) ⊎ Grown hist errands fits (staged o t (hist x) v) o y)
   may_grow o t v x y near k = let at : get_or (set v.seen o (hist x)) o [] ≡ hist x = get_or-set_same v.seen o (hist x) [] near in (
     k.0,
     ⊎_elim
@@ -236,14 +236,14 @@ module _ {S I F : Type 0} (hist : S → List I) (frame : S → F) (kind : S → 
     unfolding given
     kept = (work x open'.3).1 r y given
 
-    pub may_close : (y : S) × (m2.1 ≡ (o, y) ∷ []) × IsAs frame kind m2.0.frame (slice_index m2.0.kinds o) y ×
-        (n' ≡ length (hist y)) × ((hist y ≡ seen_at m2.0 o) ⊎ Grown hist errands fits m2.0 o y)
+    pub may_close : (y : S) × (m2.1 ≡ (o, y) ∷ []) × IsAs frame kind m2.0.frame (slice_index m2.0.kinds o) y
+        × (n' ≡ length (hist y)) × ((hist y ≡ seen_at m2.0 o) ⊎ Grown hist errands fits m2.0 o y)
     may_close = let places = rest.places in let g = may_grow o (borrows open'.1) m0.0 x y (omega arith) kept in
         let is : staged o (borrows open'.1) (hist x) m0.0 ≡ m2.0 = sym
         (ap (λ (m : Me S (View I F)). m.0) done.3 ∙ ap (λ (m : Me S (View I F)). m.0) open'.2) in
         let as_seen = subst
-        (λ (v : View I F). IsAs frame kind v.frame (slice_index v.kinds o) y ×
-        ((hist y ≡ seen_at v o) ⊎ Grown hist errands fits v o y)) is g in
+        (λ (v : View I F). IsAs frame kind v.frame (slice_index v.kinds o) y
+        × ((hist y ≡ seen_at v o) ⊎ Grown hist errands fits v o y)) is g in
         (y, ap (λ (m : Me S (View I F)). m.1) done.3, as_seen.0, done.5, as_seen.1)
 
     pub ends : (m3 : Me S (View I F)) → m3 ≡ (staged o no_turn (carried_history hist m2.1) m2.0, [])

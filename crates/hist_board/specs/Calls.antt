@@ -26,13 +26,17 @@ module _ {S I F : Type 0} {held : Ghosts S I F} where
 
   -- the pass may do this work at this object: the work takes each object that may be lent, and keeps what it has to
   abbrev pub MayWorkAt : {R : Type 0} → Pass S I F held → ℕ → (S → Type 0) → (S → R → S → Type 0) → Type 0
-  MayWorkAt pass object may gives = MayWork held.history held.frame held.kind held.errands held.fits (view_of pass) object may gives
+  MayWorkAt pass object may gives = MayWork held.history held.frame held.kind held.errands held.fits
+      (view_of pass) object may gives
 
   -- the pass had a turn at this object, in which the work gave this answer
-  abbrev pub HasTurned : {R : Type 0} → Pass S I F held → ℕ → (S → R → S → Type 0) → R → Pass S I F held → Type 0
-  HasTurned before object gives answer after = Turned held.history held.frame held.kind held.errands held.fits (view_of before) object gives answer (view_of after)
+  abbrev pub HasTurned : {R : Type 0} → Pass S I F held → ℕ → (S → R → S → Type 0) → R → Pass S I F held
+      → Type 0
+  HasTurned before object gives answer after = Turned held.history held.frame held.kind held.errands held.fits
+      (view_of before) object gives answer (view_of after)
 
   -- the objects are the board's: their histories fit, and go on from what the last pass had seen
   abbrev pub HasClosed : Pass S I F held → List S → Type 0
   HasClosed last objects =
-      (view : View I F) × SeesOn held.errands (view_of last) view × AllSeen held.history held.frame held.kind held.fits view objects
+      (view : View I F) × SeesOn held.errands (view_of last) view
+      × AllSeen held.history held.frame held.kind held.fits view objects

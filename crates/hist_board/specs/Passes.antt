@@ -28,7 +28,8 @@ module _ {I F : Type 0} where
   abbrev pub staged : ℕ → Turn → List I → View I F → View I F
   staged o t h v = record v { turns = slice_set v.turns o t; seen = slice_set v.seen o h; olds = [] }
 
-module _ {S I F : Type 0} (hist : S → List I) (frame : S → F) (kind : S → ℕ) (errands : F → I → List ℕ) (fits : F → List (List I) → Type 0) (v : View I F) (o : ℕ) where
+module _ {S I F : Type 0} (hist : S → List I) (frame : S → F) (kind : S → ℕ) (errands : F → I → List ℕ)
+    (fits : F → List (List I) → Type 0) (v : View I F) (o : ℕ) where
   -- the object x may be lent to a pass with the view v
   pub record Lent (x : S) : Type 0 where
     pub later : Knows (errands_under errands v.frame) v.errands (seen_at v o) (hist x)
@@ -44,7 +45,8 @@ module _ {S I F : Type 0} (hist : S → List I) (frame : S → F) (kind : S → 
     pub entry : I
     pub longer : hist y ≡ hist x ++ entry ∷ []
     pub own : (e : ℕ) → Contains (errands_under errands v.frame entry) e → Contains v.errands e
-    pub fit : (hs : List (List I)) → Possible errands fits (with_seen o (hist x) v) o (hist x) hs → fits_under fits v.frame (slice_set hs o (hist y))
+    pub fit : (hs : List (List I)) → Possible errands fits (with_seen o (hist x) v) o (hist x) hs
+        → fits_under fits v.frame (slice_set hs o (hist y))
 
   -- what the work of a turn has to keep
   abbrev pub Keeps : S → S → Type 0
@@ -64,36 +66,47 @@ module _ {S I F : Type 0} (hist : S → List I) (frame : S → F) (kind : S → 
     pub seen : w ≡ with_seen o (hist after) v
 
 -- y has one entry more than the view has seen, which the view may add
-pub record Grown {S I F : Type 0} (hist : S → List I) (errands : F → I → List ℕ) (fits : F → List (List I) → Type 0) (v : View I F) (o : ℕ) (y : S) : Type 0 where
+pub record Grown {S I F : Type 0} (hist : S → List I) (errands : F → I → List ℕ)
+    (fits : F → List (List I) → Type 0) (v : View I F) (o : ℕ) (y : S) : Type 0 where
   pub entry : I
   pub longer : hist y ≡ seen_at v o ++ entry ∷ []
   pub own : (e : ℕ) → Contains (errands_under errands v.frame entry) e → Contains v.errands e
-  pub fit : (hs : List (List I)) → Possible errands fits v o (seen_at v o) hs → fits_under fits v.frame (slice_set hs o (hist y))
+  pub fit : (hs : List (List I)) → Possible errands fits v o (seen_at v o) hs
+      → fits_under fits v.frame (slice_set hs o (hist y))
 
 -- The board's objects are these. Their histories are all that the view has seen, and they fit
-pub record AllSeen {S I F : Type 0} (hist : S → List I) (frame : S → F) (kind : S → ℕ) (fits : F → List (List I) → Type 0) (v : View I F) (objects : List S) : Type 0 where
+pub record AllSeen {S I F : Type 0} (hist : S → List I) (frame : S → F) (kind : S → ℕ)
+    (fits : F → List (List I) → Type 0) (v : View I F) (objects : List S) : Type 0 where
   pub count : length objects ≡ length v.kinds
   pub histories : map hist objects ≡ v.seen
-  pub alike : (o : ℕ) (x : S) → get_elem? objects o ≡ some x → IsAs frame kind v.frame (slice_index v.kinds o) x
+  pub alike : (o : ℕ) (x : S) → get_elem? objects o ≡ some x
+      → IsAs frame kind v.frame (slice_index v.kinds o) x
   pub fit : fits_under fits v.frame v.seen
 
 -- each history goes on from what was seen, with no entry of an errand that the view held
 abbrev pub SeesOn : {I F : Type 0} → (F → I → List ℕ) → View I F → View I F → Type 0
-SeesOn errands v w = (v.frame ≡ w.frame) × (v.kinds ≡ w.kinds) × ((o : ℕ) → Knows (errands_under errands v.frame) v.errands (seen_at v o) (seen_at w o))
+SeesOn errands v w = (v.frame ≡ w.frame) × (v.kinds ≡ w.kinds)
+    × ((o : ℕ) → Knows (errands_under errands v.frame) v.errands (seen_at v o) (seen_at w o))
 
 -- the objects have one frame
 abbrev pub OneFrame : {S F : Type 0} → (S → F) → List S → Type 0
-OneFrame {S = S} frame objects = (o : ℕ) (x : S) → get_elem? objects o ≡ some x → Some (frame x) ≡ frame_of frame objects
+OneFrame {S = S} frame objects = (o : ℕ) (x : S) → get_elem? objects o ≡ some x → Some
+    (frame x) ≡ frame_of frame objects
 
 -- the words of a new board
 abbrev pub FirstWords : {S I : Type 0} → (S → List I) → List S → List ℕ → Type 0
-FirstWords {S = S} hist objects words = (length words ≡ 3 * length objects) × ((o : ℕ) (x : S) → get_elem? objects o ≡ some x → (slice_index words (3 * o) ≡ 0) × (slice_index words (3 * o + 1) ≡ 0) × (slice_index words (3 * o + 2) ≡ length (hist x)))
+FirstWords {S = S} hist objects words = (length words ≡ 3 * length objects)
+    × ((o : ℕ) (x : S) → get_elem? objects o ≡ some x → (slice_index words (3 * o) ≡ 0)
+    × (slice_index words (3 * o + 1) ≡ 0) × (slice_index words (3 * o + 2) ≡ length (hist x)))
 
 -- the pass keeps its turn on each of the first objects, and has seen on
-pub record Closing {S I F : Type 0} (errands : F → I → List ℕ) (start : Me S (View I F)) (n : ℕ) (me : Me S (View I F)) : Type 0 where
+pub record Closing {S I F : Type 0} (errands : F → I → List ℕ) (start : Me S (View I F)) (n : ℕ)
+    (me : Me S (View I F)) : Type 0 where
   pub none_out : me.1 ≡ []
   pub same : (me.0.frame ≡ start.0.frame) × (me.0.kinds ≡ start.0.kinds) × (me.0.errands ≡ start.0.errands)
   pub places : (length me.0.seen ≡ length start.0.kinds) × (length me.0.turns ≡ length start.0.kinds)
-  pub kept : (o : ℕ) → o < n → ((turn_at me.0 o).has ≡ true) × ((turn_at me.0 o).whole ≡ true) × ((turn_at me.0 o).out ≡ false)
+  pub kept : (o : ℕ) → o < n
+      → ((turn_at me.0 o).has ≡ true) × ((turn_at me.0 o).whole ≡ true) × ((turn_at me.0 o).out ≡ false)
   pub later : (o : ℕ) → n ≤ o → (turn_at me.0 o ≡ no_turn) × (seen_at me.0 o ≡ seen_at start.0 o)
-  pub seen : (o : ℕ) → Knows (errands_under errands start.0.frame) start.0.errands (seen_at start.0 o) (seen_at me.0 o)
+  pub seen : (o : ℕ)
+      → Knows (errands_under errands start.0.frame) start.0.errands (seen_at start.0 o) (seen_at me.0 o)

@@ -33,16 +33,20 @@ module _ {I : Type 0} where
   SomeLane lanes P = (i : ℕ) × (l : Lane I) × (get_elem? lanes i ≡ some l) × P l
 
   -- the object is at home with this history and as it was made, or it is out with a view
-  abbrev pub InPlace : {S : Type 0} → (S → List I) → (S → Type 0) → List I → List (Lane I) → maybe.Option S → Type 0
-  InPlace hist same h lanes (some x) = (hist x ≡ h) × same x × ((i : ℕ) (l : Lane I) → get_elem? lanes i ≡ some l → l.turn.out ≡ false)
+  abbrev pub InPlace : {S : Type 0} → (S → List I) → (S → Type 0) → List I → List (Lane I) → maybe.Option S
+      → Type 0
+  InPlace hist same h lanes (some x) = (hist x ≡ h) × same x
+      × ((i : ℕ) (l : Lane I) → get_elem? lanes i ≡ some l → l.turn.out ≡ false)
   InPlace hist same h lanes none = SomeLane lanes (λ l. l.turn.out ≡ true)
 
 -- what the rule says of one object: n is its length word
-pub record ObjectKept {S I : Type 0} (hist : S → List I) (same : S → Type 0) (errands : I → List ℕ) (t s n : ℕ) (home : maybe.Option S) (h : List I) (lanes : List (Lane I)) : Type 0 where
+pub record ObjectKept {S I : Type 0} (hist : S → List I) (same : S → Type 0) (errands : I → List ℕ)
+    (t s n : ℕ) (home : maybe.Option S) (h : List I) (lanes : List (Lane I)) : Type 0 where
   pub behind : s ≤ t
   pub room : t < 2 ^ 64
   pub each_lane : (i : ℕ) (l : Lane I) → get_elem? lanes i ≡ some l → LaneKept errands t s h l
-  pub distinct : (i j : ℕ) (l m : Lane I) → get_elem? lanes i ≡ some l → get_elem? lanes j ≡ some m → l.turn.has ≡ true → m.turn.has ≡ true → l.turn.ticket ≡ m.turn.ticket → i ≡ j
+  pub distinct : (i j : ℕ) (l m : Lane I) → get_elem? lanes i ≡ some l → get_elem? lanes j ≡ some m
+      → l.turn.has ≡ true → m.turn.has ≡ true → l.turn.ticket ≡ m.turn.ticket → i ≡ j
   pub each_ticket : (k : ℕ) → s ≤ k → k < t → SomeLane lanes (λ l. (l.turn.has ≡ true) × (l.turn.ticket ≡ k))
   pub place : InPlace hist same h lanes home
   pub long : n ≡ length h
@@ -66,7 +70,15 @@ module _ {I F : Type 0} where
 
   -- a view that was joined away
   abbrev pub spent : View I F
-  spent = record { marker = record {}; frame = None; kinds = []; seen = []; errands = []; turns = []; olds = [] }
+  spent = record {
+    marker = record {};
+    frame = None;
+    kinds = [];
+    seen = [];
+    errands = [];
+    turns = [];
+    olds = [];
+  }
 
   -- the view names this frame and these kinds, and has a place for each object
   pub record Fitted (frame : Option F) (kinds : List ℕ) (v : View I F) : Type 0 where
@@ -77,7 +89,8 @@ module _ {I F : Type 0} where
 
   -- what the view has seen goes on from each of these, with no entry of its errands
   abbrev pub Told : (I → List ℕ) → View I F → Type 0
-  Told errands v = (k : ℕ) (a : Past I) → get_elem? v.olds k ≡ some a → (o : ℕ) → Knows errands a.mine (slice_index_or a.seen o []) (seen_at v o)
+  Told errands v = (k : ℕ) (a : Past I) → get_elem? v.olds k ≡ some a → (o : ℕ) → Knows errands a.mine
+      (slice_index_or a.seen o []) (seen_at v o)
 
   -- the view is not spent
   abbrev pub Live : View I F → Type 0
@@ -88,16 +101,23 @@ abbrev pub ERRANDS : ℕ
 ERRANDS = 65536
 
 -- There are histories of all objects that fit. Each object and each view keeps to them, and no two views hold one errand
-pub record Kept {S I F : Type 0} (hist : S → List I) (same : ℕ → S → Type 0) (errands : I → List ℕ) (fits : List (List I) → Type 0) (frame : Option F) (kinds : List ℕ) (s : State S (View I F)) : Type 0 where
+pub record Kept {S I F : Type 0} (hist : S → List I) (same : ℕ → S → Type 0) (errands : I → List ℕ)
+    (fits : List (List I) → Type 0) (frame : Option F) (kinds : List ℕ)
+    (s : State S (View I F)) : Type 0 where
   pub histories : List (List I)
   pub count : length histories ≡ length kinds
   pub homes : length s.homes ≡ length kinds
   pub words : length s.words ≡ 3 * length kinds
   pub objects : (o : ℕ) → o < length kinds
-      → ObjectKept hist (same o) errands (slice_index s.words (3 * o)) (slice_index s.words (3 * o + 1)) (slice_index s.words (3 * o + 2)) (slice_index_or s.homes o none) (slice_index_or histories o []) (map (lane o) s.views)
-  pub views : (i : ℕ) (v : View I F) → get_elem? s.views i ≡ some v → (v ≡ spent) ⊎ (Fitted frame kinds v × Told errands v)
-  pub apart : (i j : ℕ) (v w : View I F) (e : ℕ) → get_elem? s.views i ≡ some v → get_elem? s.views j ≡ some w → Contains v.errands e → Contains w.errands e → i ≡ j
-  pub held : (e : ℕ) → e < ERRANDS → (i : ℕ) × (v : View I F) × (get_elem? s.views i ≡ some v) × Contains v.errands e
+      → ObjectKept hist (same o) errands (slice_index s.words (3 * o)) (slice_index s.words (3 * o + 1))
+      (slice_index s.words (3 * o + 2)) (slice_index_or s.homes o none) (slice_index_or histories o [])
+      (map (lane o) s.views)
+  pub views : (i : ℕ) (v : View I F) → get_elem? s.views i ≡ some v
+      → (v ≡ spent) ⊎ (Fitted frame kinds v × Told errands v)
+  pub apart : (i j : ℕ) (v w : View I F) (e : ℕ) → get_elem? s.views i ≡ some v → get_elem? s.views j ≡ some w
+      → Contains v.errands e → Contains w.errands e → i ≡ j
+  pub held : (e : ℕ) → e < ERRANDS
+      → (i : ℕ) × (v : View I F) × (get_elem? s.views i ≡ some v) × Contains v.errands e
   pub fit : fits histories
 
 -- the frame of the first object, by which a board is named
@@ -119,9 +139,12 @@ abbrev pub IsAs : {S F : Type 0} → (S → F) → (S → ℕ) → Option F → 
 IsAs frame kind f k x = (Some (frame x) ≡ f) × (kind x ≡ k)
 
 -- the rule of a board that was made of these objects
-abbrev pub IsBoard : {S I F : Type 0} → (S → List I) → (S → F) → (S → ℕ) → (F → I → List ℕ) → (F → List (List I) → Type 0) → List S → State S (View I F) → Type 0
+abbrev pub IsBoard : {S I F : Type 0} → (S → List I) → (S → F) → (S → ℕ) → (F → I → List ℕ)
+    → (F → List (List I) → Type 0) → List S → State S (View I F) → Type 0
 IsBoard hist frame kind errands fits made s =
-    Kept hist (λ o. IsAs frame kind (frame_of frame made) (slice_index (map kind made) o)) (errands_under errands (frame_of frame made)) (fits_under fits (frame_of frame made)) (frame_of frame made) (map kind made) s
+    Kept hist (λ o. IsAs frame kind (frame_of frame made) (slice_index (map kind made) o))
+    (errands_under errands (frame_of frame made)) (fits_under fits (frame_of frame made))
+    (frame_of frame made) (map kind made) s
 
 unfoldable pub numbers_from : ℕ → ℕ → List ℕ
 numbers_from a zero = []
@@ -133,7 +156,16 @@ all_errands = numbers_from 0 ERRANDS
 
 -- the first view of a board that was made of these objects
 abbrev pub first_view : {S I F : Type 0} → (S → List I) → (S → F) → (S → ℕ) → List S → View I F
-first_view hist frame kind made = record { marker = record {}; frame = frame_of frame made; kinds = map kind made; seen = map hist made; errands = all_errands; turns = map (λ _. no_turn) (map kind made); olds = [] }
+first_view hist frame kind made =
+    record {
+      marker = record {};
+      frame = frame_of frame made;
+      kinds = map kind made;
+      seen = map hist made;
+      errands = all_errands;
+      turns = map (λ _. no_turn) (map kind made);
+      olds = [];
+    }
 
 -- the least errand, if there is one, and the others
 abbrev pub least_errand : List ℕ → List ℕ
@@ -166,7 +198,12 @@ module _ {I F : Type 0} where
 
   -- what both views have seen, and the errands of both
   abbrev pub joined : View I F → View I F → View I F
-  joined v w = record v { seen = longer_each v.seen w.seen; errands = v.errands ++ w.errands; olds = record { seen = v.seen; mine = v.errands } ∷ record { seen = w.seen; mine = w.errands } ∷ [] }
+  joined v w = record v {
+    seen = longer_each v.seen w.seen;
+    errands = v.errands ++ w.errands;
+    olds =
+        record { seen = v.seen; mine = v.errands } ∷ record { seen = w.seen; mine = w.errands } ∷ [];
+  }
 
   abbrev pub told : View I F → View I F
   told v = record v { olds = [] }

@@ -1,4 +1,4 @@
-//! Objects behind turns: threads lend each object one after another, and each carries what it has seen of them.
+//! Objects behind turns: threads have each object one after another, and carry what they have seen of it.
 #![tactic(auto)]
 
 mod board;

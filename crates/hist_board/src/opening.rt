@@ -15,7 +15,8 @@ use std::alloc::Global;
 use std::snapshot::Snapshot;
 
 impl<S: Held + Drop> Board<S> {
-    /// A board of these objects, in this order, with a pass that has seen each history whole and has every errand.
+    /// A board of these objects, in this order, with a pass that has seen each history whole and has every
+    /// errand. Without memory the objects are dropped.
     pub fn new(alloc: Global, objects: Vec<S>) -> Result<(Board<S>, Pass<S>), Memory>
         requires some { (0 < vec_len objects) × (vec_len objects ≤ 17) }
         requires frame { OneFrame S.frame objects.items }

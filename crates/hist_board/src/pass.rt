@@ -38,8 +38,8 @@ impl<S: Held> Pass<S> {
 
     /// Waits for the object's turn, lends it once to the work, and passes the turn on.
     ///
-    /// The work may add one entry to the end of the history, if this pass holds the entry's errands and if it fits
-    /// whatever the other histories are, as far as this pass can know. Else it leaves the history as it is.
+    /// The work may add one entry to the end of the history, if this pass holds the entry's errands and if it
+    /// fits whatever the other histories are, as far as this pass can know. Else it leaves the history as it is.
     pub fn turn_with<W: Wait, R, F: FnOnce(&mut S) -> R>(
         &mut self,
         rt: &W,
