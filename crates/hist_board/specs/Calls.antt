@@ -24,7 +24,7 @@ module _ {S I F : Type 0} {held : Ghosts S I F} where
       × ((view_of pass).frame ≡ frame_of held.frame (made_of board))
       × ((view_of pass).kinds ≡ map held.kind (made_of board))
 
-  -- the pass may do this work at this object: the work takes each object that may be lent, and keeps what it has to
+  -- the pass may do this work at this object: the work takes each object that may be lent, and keeps the rule
   abbrev pub MayWorkAt : {R : Type 0} → Pass S I F held → ℕ → (S → Type 0) → (S → R → S → Type 0) → Type 0
   MayWorkAt pass object may gives = MayWork held.history held.frame held.kind held.errands held.fits
       (view_of pass) object may gives

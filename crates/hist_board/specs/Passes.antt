@@ -90,8 +90,8 @@ SeesOn errands v w = (v.frame ≡ w.frame) × (v.kinds ≡ w.kinds)
 
 -- the objects have one frame
 abbrev pub OneFrame : {S F : Type 0} → (S → F) → List S → Type 0
-OneFrame {S = S} frame objects = (o : ℕ) (x : S) → get_elem? objects o ≡ some x → Some
-    (frame x) ≡ frame_of frame objects
+OneFrame {S = S} frame objects = (o : ℕ) (x : S) → get_elem? objects o ≡ some x
+    → Some (frame x) ≡ frame_of frame objects
 
 -- the words of a new board
 abbrev pub FirstWords : {S I : Type 0} → (S → List I) → List S → List ℕ → Type 0

@@ -34,8 +34,9 @@ module _ {S I F : Type 0} where
   looked errands st m n m' =
       (m'.1 ≡ m.1)
       × ((o : ℕ) × (st.word ≡ 3 * o + 1)
-      × (n ≡ (turn_at m.0 o).ticket → (h : List I) × Knows (errands_under errands m.0.frame) m.0.errands
-      (seen_at m.0 o) h × (m'.0 ≡ with_turn o (served n) (with_seen o h m.0)))
+      × (n ≡ (turn_at m.0 o).ticket
+      → (h : List I) × Knows (errands_under errands m.0.frame) m.0.errands (seen_at m.0 o) h
+      × (m'.0 ≡ with_turn o (served n) (with_seen o h m.0)))
       × (n ≢ (turn_at m.0 o).ticket → m'.0 ≡ m.0))
 
   -- the length was read, and the object taken
@@ -44,8 +45,8 @@ module _ {S I F : Type 0} where
   taken hist frame kind errands fits st m n m' =
       (o : ℕ) × (st.word ≡ 3 * o + 2) × (n ≡ length (seen_at m.0 o))
       × (m'.0 ≡ with_turn o (borrows (turn_at m.0 o).ticket) m.0)
-      × ((x : S) × (m'.1 ≡ (o, x) ∷ m.1) × (hist x ≡ seen_at m.0 o) × IsAs frame kind m.0.frame
-      (slice_index m.0.kinds o) x)
+      × ((x : S) × (m'.1 ≡ (o, x) ∷ m.1) × (hist x ≡ seen_at m.0 o)
+      × IsAs frame kind m.0.frame (slice_index m.0.kinds o) x)
       × ((hs : List (List I)) × Possible errands fits m.0 o (seen_at m.0 o) hs)
 
   -- an entry was added to the end of the history

@@ -20,7 +20,8 @@ pub record Knows {I : Type 0} (errands : I → List ℕ) (mine : List ℕ) (seen
   pub is : whole ≡ seen ++ rest
   pub free : (e : ℕ) (x : I) → Contains mine e → Contains rest x → ¬ Contains (errands x) e
 
--- what the rule says of one view at one object, where serving is s, the next ticket t, and the history h
+-- What the rule says of one view at one object, where serving is s, the next ticket t, and the history h.
+-- Only who is served may have seen it whole by its ticket, and only who has may have the object.
 pub record LaneKept {I : Type 0} (errands : I → List ℕ) (t s : ℕ) (h : List I) (l : Lane I) : Type 0 where
   pub ticket : l.turn.has ≡ true → (s ≤ l.turn.ticket) × (l.turn.ticket < t)
   pub whole : l.turn.whole ≡ true → (l.turn.has ≡ true) × (l.turn.ticket ≡ s) × (l.seen ≡ h)
@@ -39,7 +40,9 @@ module _ {I : Type 0} where
       × ((i : ℕ) (l : Lane I) → get_elem? lanes i ≡ some l → l.turn.out ≡ false)
   InPlace hist same h lanes none = SomeLane lanes (λ l. l.turn.out ≡ true)
 
--- what the rule says of one object: n is its length word
+-- What the rule says of one object, of which t, s and n are the ticket, serving and length. Tickets of different
+-- views differ, and each from serving to below ticket is some view's. The object is in its place, its length is
+-- that of its history, and some view has seen that whole.
 pub record ObjectKept {S I : Type 0} (hist : S → List I) (same : S → Type 0) (errands : I → List ℕ)
     (t s n : ℕ) (home : maybe.Option S) (h : List I) (lanes : List (Lane I)) : Type 0 where
   pub behind : s ≤ t
@@ -89,8 +92,8 @@ module _ {I F : Type 0} where
 
   -- what the view has seen goes on from each of these, with no entry of its errands
   abbrev pub Told : (I → List ℕ) → View I F → Type 0
-  Told errands v = (k : ℕ) (a : Past I) → get_elem? v.olds k ≡ some a → (o : ℕ) → Knows errands a.mine
-      (slice_index_or a.seen o []) (seen_at v o)
+  Told errands v = (k : ℕ) (a : Past I) → get_elem? v.olds k ≡ some a → (o : ℕ)
+      → Knows errands a.mine (slice_index_or a.seen o []) (seen_at v o)
 
   -- the view is not spent
   abbrev pub Live : View I F → Type 0
@@ -100,7 +103,8 @@ module _ {I F : Type 0} where
 abbrev pub ERRANDS : ℕ
 ERRANDS = 65536
 
--- There are histories of all objects that fit. Each object and each view keeps to them, and no two views hold one errand
+-- The rule: there are histories of all objects, which fit, and which each object and each view keeps to. No two
+-- views hold one errand, and each errand is held. A view that was joined away is spent: it has seen and holds nothing.
 pub record Kept {S I F : Type 0} (hist : S → List I) (same : ℕ → S → Type 0) (errands : I → List ℕ)
     (fits : List (List I) → Type 0) (frame : Option F) (kinds : List ℕ)
     (s : State S (View I F)) : Type 0 where
@@ -201,8 +205,7 @@ module _ {I F : Type 0} where
   joined v w = record v {
     seen = longer_each v.seen w.seen;
     errands = v.errands ++ w.errands;
-    olds =
-        record { seen = v.seen; mine = v.errands } ∷ record { seen = w.seen; mine = w.errands } ∷ [];
+    olds = record { seen = v.seen; mine = v.errands } ∷ record { seen = w.seen; mine = w.errands } ∷ [];
   }
 
   abbrev pub told : View I F → View I F
