@@ -4,9 +4,10 @@ use row_tree::{TreeError, opening_rows, read_tree};
 use std::alloc::Global;
 use std::collections::BTreeMap;
 use test_support::{Rows, config_of, edit, listed, row_of};
-use tree_model::WalkEnd;
+use tree_model::{WalkEnd, Walked};
 
 /// What the lines before have set.
+#[derive(Drop)]
 pub struct Bench {
     config: Config,
     /// The rows that each case begins with.
@@ -50,17 +51,29 @@ fn given(alloc: Global, words: &[&str]) -> Result<Items<Row>> {
     Ok(rows)
 }
 
-fn opening(alloc: Global, config: &Config) -> Result<String> {
-    let rows = opening_rows(alloc, config)?;
-    let mut out = String::from_str(alloc, " =")?;
-    for row in rows.as_slice() {
-        let key = hex::encode(alloc, row.key.as_slice())?;
-        let value = hex::encode(alloc, row.value.as_slice())?;
-        write!(out, " {key}={value}")?;
-    }
-    let tree = read_tree(alloc, rows.as_slice(), config)?;
+/// Adds a row's bytes to a text.
+fn tell_row(alloc: Global, row: &Row, out: &mut String) -> Result<()> {
+    let key = hex::encode(alloc, row.key.as_slice())?;
+    let value = hex::encode(alloc, row.value.as_slice())?;
+    write!(out, " {key}={value}")?;
+    Ok(())
+}
+
+/// What stands at the path `/` of the rows' tree.
+fn at_root(alloc: Global, config: &Config, rows: &[Row]) -> Result<Walked> {
+    let tree = read_tree(alloc, rows, config)?;
     let path = Path::read(alloc, b"/")?;
     let walked = tree.resolve(alloc, InodeId::root(), &path, WalkEnd::Follow)?;
+    Ok(walked)
+}
+
+fn opening(alloc: Global, config: &Config) -> Result<String> {
+    let rows = opening_rows(alloc, config)?;
+    let walked = at_root(alloc, config, rows.as_slice())?;
+    let mut out = String::from_str(alloc, " =")?;
+    for row in rows.as_slice() {
+        tell_row(alloc, row, &mut out)?;
+    }
     write!(out, ", {walked:?}")?;
     Ok(out)
 }

@@ -2,9 +2,9 @@ use anyhow::{Result, bail};
 use fs_base::{Config, Text};
 use std::alloc::Global;
 
-/// The words of a line, which single spaces part.
+/// The words of a line.
 pub fn split<'a>(alloc: Global, line: &'a str) -> Result<Vec<&'a str>> {
-    let words = line.split(' ').collect(alloc)?;
+    let words = line.split_whitespace().collect(alloc)?;
     Ok(words)
 }
 
