@@ -13,8 +13,6 @@ mod new_node;
 mod node;
 mod plan;
 mod setattr;
-#[cfg(test)]
-mod tests;
 mod tree;
 mod walk;
 mod walking;

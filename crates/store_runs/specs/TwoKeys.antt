@@ -1,4 +1,4 @@
--- The law that the tests run: the keys a and b have a value, and an entry sets one key.
+-- The law of the store that the lists are run on: the keys a and b have a value, and an entry sets one key.
 use Rattle.std.specs.Prelude.{◌≡◌, ℕ, List, [], ◌∷◌, Option, Some, Bool, true, false, cond, IsSome, refl}
 use Rattle.std.specs.Ordering.{is_eq}
 use Rattle.std.proofs.Common.{sym, subst}

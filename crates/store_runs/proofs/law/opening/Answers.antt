@@ -2,8 +2,8 @@ use Rattle.std.proofs.Common.{◌≡◌, ◌∙◌, ◌∷◌, ◌++◌, [], ap,
 use Rattle.conflict_sets.specs.Keys.{key_cmp}
 use Rattle.conflict_sets.specs.Rows.{IsAscending}
 use Rattle.fs_base.specs.declared.row.Row.{Row}
-use Rattle.kv_store.specs.TwoKeys.{HasBoth}
-use Rattle.kv_store.proofs.tests.opening.Goals as goal
+use Rattle.store_runs.specs.TwoKeys.{HasBoth}
+use Rattle.store_runs.proofs.law.opening.Goals as goal
 
 abbrev row_of : ℕ → Row
 row_of letter = record { key = letter ∷ []; value = 45 ∷ [] }
