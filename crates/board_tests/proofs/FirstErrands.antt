@@ -15,4 +15,5 @@ module _ {I F : Type 0} where
 
   pub second_has : (v : View I F) → v.errands ≡ all_errands → Contains (handed (handing v)).errands 1
   second_has v is = has_one (handed (handing v)).errands 1
-      (ap (λ (es : List ℕ). least_errand (other_errands es)) (is ∙ all_are) ∙ (ap least_errand (other_numbers 0 65535) ∙ least_number 1 65534))
+      (ap (λ (es : List ℕ). least_errand (other_errands es)) (is ∙ all_are) ∙
+      (ap least_errand (other_numbers 0 65535) ∙ least_number 1 65534))

@@ -9,4 +9,4 @@ mod threads;
 
 pub use log::{Entry, Log, add_entry};
 pub use numbers::{Numbers, add_number, copy_of};
-pub use threads::add_both;
+pub use threads::two_threads;

@@ -1,6 +1,8 @@
 //! A list of entries behind turns. The errand of an entry is its client.
 ghost use Rattle.std.specs.Prelude.{◌≡◌, ℕ, ◌<◌, List, [], ◌∷◌, ◌++◌, Contains, length};
 ghost use Rattle.board_tests.specs.Adding.{HasAdded};
+ghost use Rattle.board_tests.specs.Errands.{numbers_of};
+ghost use Rattle.hist_board.specs.Rule.{seen_at};
 ghost use Rattle.hist_board.specs.Calls.{view_of, IsPassOf};
 
 use fs_base::Memory;
@@ -54,6 +56,7 @@ pub fn add_entry<W: Wait>(
     ensures board { IsPassOf board.now pass.new }
     ensures errands { (view_of pass.new).errands ≡ (view_of pass.old).errands }
     ensures kinds { (view_of pass.new).kinds ≡ (view_of pass.old).kinds }
+    ensures own { HasAdded (numbers_of client (seen_at (view_of pass.old) 0)) number result (numbers_of client (seen_at (view_of pass.new) 0)) }
 {
     pass.turn_with(
         rt,

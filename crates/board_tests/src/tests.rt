@@ -1,4 +1,4 @@
-use crate::{Entry, Log, Numbers, add_both, add_number, copy_of};
+use crate::{Entry, Numbers, add_number, copy_of, two_threads};
 use hist_board::Board;
 use std::test::Fail;
 
@@ -25,18 +25,11 @@ fn two_passes_add_in_order(rt: HostRuntime) -> Result<(), Fail> {
 
 #[test]
 fn two_threads_add_each_entry_once(rt: HostRuntime) -> Result<(), Fail> {
-    let mut objects = Vec::new(rt.alloc());
-    objects.push(Log {
-        items: Vec::new(rt.alloc()),
-    })?;
-    let (board, mut pass) = Board::new(rt.alloc(), objects)?;
-    let all = add_both(&rt, &board, &mut pass);
-    assert!(rt; all && pass.seen(0) == 1000);
-    let objects = board.close(&rt, rt.alloc(), pass)?;
-    assert!(rt; objects.len() == 1 && objects[0].items.len() == 1000);
+    let (logs, all) = two_threads(&rt, rt.alloc())?;
+    assert!(rt; all && logs.len() == 1 && logs[0].items.len() == 1000);
     // Each client's entries stand in their order, so 0 to 499 once each.
     let mut next = [0u64; 2];
-    for entry in objects[0].items.as_slice() {
+    for entry in logs[0].items.as_slice() {
         let Entry { client, number } = *entry;
         assert!(rt; client < 2);
         let client = client as usize;
