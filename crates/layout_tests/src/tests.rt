@@ -1,15 +1,21 @@
+ghost use Rattle.std.specs.Prelude.{◌≡◌};
+
 use chunk_layout::{Piece, PieceError, chain_of, extent_of, pieces, places};
 use fs_base::{Config, InodeId, Layout};
 use rendezvous::{owner, score};
 use std::process::Abort;
 use std::test::Fail;
 
-fn piece(index: u64, offset: u32, len: u32) -> Piece {
+fn piece(index: u64, offset: u32, len: u32) -> Piece
+    ensures { result ≡ record { index = index; offset = offset; len = len } }
+{
     Piece { index, offset, len }
 }
 
 /// A layout with this chunk, whatever its places.
-fn of_chunk(chunk: u32) -> Layout {
+fn of_chunk(chunk: u32) -> Layout
+    ensures { result.chunk ≡ chunk }
+{
     Layout {
         chunk,
         stripe: 1,
