@@ -57,7 +57,7 @@ struct Touch {
 }
 
 impl EntryLaw for Touch {
-    ghost use Rattle.kv_store.specs.TwoKeys.{HasBoth, SetsOne, keeps_both, one_ascends};
+    ghost use Rattle.kv_store.specs.TwoKeys.{HasBoth, SetsOne, keeps_both};
 
     ghost reads_of = { λ entry. entry.reads };
 
@@ -68,8 +68,6 @@ impl EntryLaw for Touch {
     ghost sound = { λ config entry. SetsOne entry.writes.writes };
 
     ghost keeps_good = { λ config entry rows ascending sound good agrees. keeps_both rows entry.writes.writes ascending sound good };
-
-    ghost writes_ascend = { λ config entry sound. one_ascends entry.writes.writes sound };
 
     fn reads(&self) -> &ReadSet {
         &self.reads

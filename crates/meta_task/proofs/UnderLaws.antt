@@ -2,6 +2,7 @@
 use Rattle.std.proofs.Common.{inl, inr, ◌≡◌, Bool, true, false, cond, List, ◌∷◌, refl, sym, subst, ◌∙◌}
 use Rattle.std.specs.Prelude.{Some}
 use Rattle.conflict_sets.specs.declared.sets.ReadSet.{ReadSet}
+use Rattle.conflict_sets.specs.declared.sets.WriteSet.{WriteSet}
 use Rattle.fs_base.specs.Config.{Settings}
 use Rattle.fs_base.specs.declared.call.Request.{Request}
 use Rattle.fs_base.specs.declared.reply.Reply.{Reply}
@@ -102,12 +103,12 @@ under_told C q reads op reply under told = by_kind under.new
 -- ---- commits
 
 pub under_sound : (C : Settings) (q : Request) (op : OpTask) (t : Transaction) (reply : Reply) (asked : List Asked) → IsTaken C q → is_query q.call ≡ false → IsUnder C q t.reads op → IsOpCommit C (effect_of op) t reply asked
-    → IsSoundEntry C (record { request = q; reply = reply; asked = asked; reads = t.reads; writes = record { writes = set_write (spelled_key (keys.Idem q.client)) (Some (spelled_value (kept_value q reply))) t.writes } })
-under_sound C q op t reply asked taken update under made = by_kind under.new
+    → (writes : WriteSet) → writes.writes ≡ set_write (spelled_key (keys.Idem q.client)) (Some (spelled_value (kept_value q reply))) t.writes → IsSoundEntry C (record { request = q; reply = reply; asked = asked; reads = t.reads; writes = writes })
+under_sound C q op t reply asked taken update under made writes is = by_kind under.new
   where
-    by_kind : IsNew q t.reads → IsSoundEntry C (record { request = q; reply = reply; asked = asked; reads = t.reads; writes = record { writes = set_write (spelled_key (keys.Idem q.client)) (Some (spelled_value (kept_value q reply))) t.writes } })
+    by_kind : IsNew q t.reads → IsSoundEntry C (record { request = q; reply = reply; asked = asked; reads = t.reads; writes = writes })
     by_kind (inl query) = absurd (let e : true ≡ false = sym query ∙ update in cc)
-    by_kind (inr new) = sound_entry C q (effect_of op) t reply asked update under.effect made new.1 taken.client taken.valid.number taken.number
+    by_kind (inr new) = sound_entry C q (effect_of op) t reply asked update under.effect made new.1 taken.client taken.valid.number taken.number writes is
 
 -- no rows agree with what a query has read that would commit
 pub query_told : (C : Settings) (q : Request) (op : OpTask) (t : Transaction) (reply : Reply) (asked : List Asked) → is_query q.call ≡ true → IsUnder C q t.reads op → IsOpCommit C (effect_of op) t reply asked → IsJustifiedReply C q t.reads reply

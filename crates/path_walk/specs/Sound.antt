@@ -3,7 +3,6 @@ use Rattle.std.specs.Prelude.{◌≡◌, ◌≢◌, ◌<◌, ◌^◌, ℕ, false
 use Rattle.std.specs.FinMap.{get}
 use Rattle.conflict_sets.specs.Reads as bytes
 use Rattle.conflict_sets.specs.Rows.{IsAscending, value_at_key, with_writes}
-use Rattle.conflict_sets.specs.Writes.{AreAscending}
 use Rattle.conflict_sets.specs.declared.sets.ReadSet.{ReadSet}
 use Rattle.conflict_sets.specs.declared.sets.Write.{Write}
 use Rattle.fs_base.specs.Config.{Settings}
@@ -41,7 +40,6 @@ pub record IsSoundEntry (C : Settings) (e : Entry) : Type 0 where
   -- it is no refusal, and no query
   pub makes : (rows : List Row) (T : Tree) → IsAscending rows → HasTree C rows T → bytes.Agrees rows e.reads → (V : Tree) × (effect C T e.request ≡ Makes V e.reply)
   pub fresh : (rows : List Row) (T : Tree) → IsAscending rows → HasTree C rows T → bytes.Agrees rows e.reads → MatchOption (get T.kept e.request.client.0) ⊤ (λ kept. kept.number < e.request.number)
-  pub ascending : AreAscending e.writes.writes
   pub valid : HaveValidKeys e.writes.writes
   pub keeps : written_at e.writes.writes (spelled_key (keys.Idem e.request.client)) ≡ Some (Some (spelled_value (kept_value e.request e.reply)))
   pub kept : (client : ClientId) → client.0 < 2 ^ 128 → ChangesRow C e.reads e.writes.writes (keys.Idem client)

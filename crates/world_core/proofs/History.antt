@@ -276,7 +276,7 @@ module _ (C : Settings) (journal : List Entry) (s : IsSoundJournal C journal) (c
 
   -- an entry of another client writes no kept reply of this one: it would change the row, and the tree's stays
   none_written : (place : ℕ) (e : Entry) → EntryAt journal place e → place < length journal → client.0 ≢ e.request.client.0 → written_value e.writes.writes key ≡ None
-  none_written place e at l apart = written_once e.writes.writes key sound.ascending ∙ none (written_at e.writes.writes key) refl
+  none_written place e at l apart = written_once e.writes.writes key e.writes.ascending ∙ none (written_at e.writes.writes key) refl
     where
       parts : IsSoundEntry C e × bytes.Agrees (journal_rows C journal place) e.reads
       parts = entry_sound C journal s place e at
@@ -294,7 +294,7 @@ module _ (C : Settings) (journal : List Entry) (s : IsSoundJournal C journal) (c
       value : value_at_key (journal_rows C journal (place + 1)) key ≡ unwrap_or (written_at e.writes.writes key) (value_at_key (journal_rows C journal place) key)
       value =
           value_more writes_of (opening_bytes C) journal place e key s.ascending l (get_or_from_slice_get journal place e e at)
-          ∙ ap (λ o. unwrap_or o (value_at_key (journal_rows C journal place) key)) (written_once e.writes.writes key sound.ascending)
+          ∙ ap (λ o. unwrap_or o (value_at_key (journal_rows C journal place) key)) (written_once e.writes.writes key e.writes.ascending)
 
       none : (o : Option (Option (List ℕ))) → written_at e.writes.writes key ≡ o → o ≡ None
       none None is = refl
@@ -326,7 +326,7 @@ module _ (C : Settings) (journal : List Entry) (s : IsSoundJournal C journal) (c
                   client_is = sym own;
                   kept = ap (λ c. get (tree_at C journal (suc n)).kept c) same ∙ kept_next C journal s n e at;
                   writer = wrote ∙ ap (λ o. is_written o (n + 1) (last_writer writes_of journal n key))
-                      (written_once e.writes.writes key sound.ascending ∙ (ap (λ (c : ClientId). written_at e.writes.writes (spelled_key (keys.Idem c))) own ∙ sound.keeps));
+                      (written_once e.writes.writes key e.writes.ascending ∙ (ap (λ (c : ClientId). written_at e.writes.writes (spelled_key (keys.Idem c))) own ∙ sound.keeps));
                 }))
             | inr apart ↦
                 (let still : get (tree_at C journal (suc n)).kept client.0 ≡ get (tree_at C journal n).kept client.0 = kept_past C journal s n e client.0 at apart in
