@@ -145,10 +145,10 @@ fn request_of(alloc: Global, words: &[&str]) -> Result<Request, Fail> {
 }
 
 fn answer(alloc: Global, tree: &mut Tree, request: &Request) -> Result<Reply, Fail> {
-    if request.server >= 16 || !is_built(&request.call) {
+    if request.server >= 16 || !is_built(&request.call) || settles(&request.call) {
         return Err("no call")?;
     }
-    Ok(tree.apply(alloc, request)?)
+    Ok(tree.apply(alloc, request, None)?)
 }
 
 fn reply_to(alloc: Global, tree: &mut Tree, words: &[&str]) -> Result<Reply, Fail> {
