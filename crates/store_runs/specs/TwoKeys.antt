@@ -4,7 +4,6 @@ use Rattle.std.specs.Ordering.{is_eq}
 use Rattle.std.proofs.Common.{sym, subst}
 use Rattle.conflict_sets.specs.Keys.{key_cmp}
 use Rattle.conflict_sets.specs.Rows.{IsAscending, value_at_key, with_write, with_writes}
-use Rattle.conflict_sets.specs.Writes.{AreAscending}
 use Rattle.conflict_sets.proofs.RowLemmas.{value-with_write}
 use Rattle.conflict_sets.specs.declared.sets.Write.{Write}
 use Rattle.fs_base.specs.declared.row.Row.{Row}
@@ -28,6 +27,3 @@ set_keeps key value q rows a h = subst (λ (o : Option (List ℕ)). IsSome o) (s
 pub keeps_both : (rows : List Row) (writes : List Write) → IsAscending rows → SetsOne writes → HasBoth rows → HasBoth (with_writes rows writes)
 keeps_both rows writes a s h =
     subst (λ ws. HasBoth (with_writes rows ws)) (sym s.is) (set_keeps s.key s.value (97 ∷ []) rows a h.0, set_keeps s.key s.value (98 ∷ []) rows a h.1)
-
-pub one_ascends : (writes : List Write) → SetsOne writes → AreAscending writes
-one_ascends writes s = subst (λ ws. AreAscending ws) (sym s.is) (tt, tt)

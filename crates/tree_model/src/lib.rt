@@ -17,7 +17,7 @@ mod tree;
 mod walk;
 mod walking;
 
-pub use apply::{is_built, is_query};
+pub use apply::{is_built, is_query, settles};
 pub use kept::{Doom, KeptReply};
 pub use make::is_layout;
 pub use maps::{ByClient, ByName, ByNumber, BySession};
