@@ -32,7 +32,7 @@ fn answer(alloc: Global, tree: &mut Tree, request: &Request) -> Result<Reply> {
     if request.server >= 16 || !is_built(&request.call) {
         bail!("the call isn't built");
     }
-    let reply = tree.apply(alloc, request)?;
+    let reply = tree.apply(alloc, request, None)?;
     Ok(reply)
 }
 
