@@ -4,6 +4,3 @@
 mod top;
 
 pub use top::{Status, plain_main};
-
-#[cfg(test)]
-mod tests;
