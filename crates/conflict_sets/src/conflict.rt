@@ -4,13 +4,12 @@ ghost use Rattle.std.specs.Ordering.{is_eq};
 ghost use Rattle.conflict_sets.specs.Keys.{key_cmp};
 ghost use Rattle.conflict_sets.specs.Reads.{is_up_to_last as up_to_last, range_holds as holds_range, reads_hold, first_held};
 ghost use Rattle.conflict_sets.specs.Held.{HeldAt, LeastAt};
-ghost use Rattle.conflict_sets.specs.Writes.{AreAscending};
 
 use crate::order::compare;
 use crate::sets::{KeyRead, RangeRead, ReadSet, Write, WriteSet};
 use fs_base::Row;
 
-/// The place of the least written key that the reads hold, where the writes stand in the order of keys.
+/// The place of the least written key that the reads hold.
 ///
 /// The reads hold each key that was read, and each key in a range that was read: from its `lo` up to its last row
 /// where its rows are as many as its limit, and else up to, and without, its `hi`.
@@ -18,7 +17,7 @@ pub fn first_conflict(reads: &ReadSet, writes: &WriteSet) -> Option<usize>
     ensures place { result ≡ position (λ write. reads_hold reads.now write.key) writes.now.writes }
     ensures none { IfNone result (first_held reads.now writes.now.writes ≡ None) }
     ensures some { IfSome result (λ place. HeldAt reads.now writes.now.writes place) }
-    ensures least { AreAscending writes.now.writes → IfSome result (λ place. LeastAt reads.now writes.now.writes place) }
+    ensures least { IfSome result (λ place. LeastAt reads.now writes.now.writes place) }
 {
     held_place(reads, writes.writes.as_slice())
 }

@@ -11,7 +11,6 @@ pub trait EntryLaw: Drop {
     ghost use Rattle.fs_base.specs.declared.row.Row.{Row};
     ghost use Rattle.conflict_sets.specs.Rows.{IsAscending, with_writes};
     ghost use Rattle.conflict_sets.specs.Reads.{Agrees};
-    ghost use Rattle.conflict_sets.specs.Writes.{AreAscending};
     ghost use Rattle.conflict_sets.specs.declared.sets.ReadSet.{ReadSet};
     ghost use Rattle.conflict_sets.specs.declared.sets.WriteSet.{WriteSet};
 
@@ -37,7 +36,4 @@ pub trait EntryLaw: Drop {
 
     /// A sound entry leads good rows that agree with its reads to good rows.
     ghost keeps_good: { (config : Settings) (entry : Self) (rows : List Row) → IsAscending rows → sound config entry → good config rows → Agrees rows (reads_of entry) → good config (with_writes rows (writes_of entry).writes) };
-
-    /// The writes of a sound entry stand in the order of keys, each key once.
-    ghost writes_ascend: { (config : Settings) (entry : Self) → sound config entry → AreAscending (writes_of entry).writes };
 }

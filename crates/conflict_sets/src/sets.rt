@@ -1,3 +1,5 @@
+ghost use Rattle.conflict_sets.specs.Writes.{AreAscending, AreAscending-prop};
+
 use fs_base::{Items, Row, Text};
 
 /// A key that was read, with its value then. `None`: it had none.
@@ -34,10 +36,11 @@ pub struct Write {
     pub value: Option<Text>,
 }
 
-/// All that a transaction writes. The writes of a sound entry stand in the order of keys, each key once.
+/// All that a transaction writes, in the order of keys, each key once.
 #[derive(Debug, Drop)]
 pub struct WriteSet {
     pub writes: Items<Write>,
+    pub ghost ascending: { AreAscending writes } by { AreAscending-prop writes },
 }
 
 /// A key's value at a version, with the version that last wrote the key: 0 where no entry has.

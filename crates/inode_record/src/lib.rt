@@ -9,6 +9,3 @@ mod writing;
 pub use byte_fields::RowError;
 pub use inode::{InodePart, InodeRow};
 pub use laws::inodes_are_spelled;
-
-#[cfg(test)]
-mod tests;

@@ -1,26 +1,13 @@
 -- The first later write, in plain words.
 use Rattle.std.proofs.Common.{◌≡◌, ℕ, ◌<◌, ◌≤◌, ◌+◌, List, [], ◌∷◌, Option, Some, None, drop, refl, arith, suc, zero, subst}
 use Rattle.std.specs.Prelude.{slice_get}
-use Rattle.conflict_sets.specs.Writes.{AreAscending}
 use Rattle.conflict_sets.specs.Reads.{first_held}
-use Rattle.conflict_sets.specs.Rows.{with_writes}
 use Rattle.conflict_sets.specs.Held.{HoldNone, IsLeastHeld}
-use Rattle.fs_base.specs.declared.row.Row.{Row}
 use Rattle.conflict_sets.specs.declared.sets.ReadSet.{ReadSet}
 use Rattle.conflict_sets.specs.declared.sets.WriteSet.{WriteSet}
 use Rattle.conflict_sets.proofs.HeldLemmas.{none_holds, first_is_least}
-use Rattle.kv_store.specs.Journal.{this_or, later_from, first_later, IsRun}
+use Rattle.kv_store.specs.Journal.{this_or, later_from, first_later}
 use Rattle.kv_store.specs.Later.{IsFirst}
-
--- every entry's writes ascend
-abbrev AllAscend : {E : Type 0} → (E → WriteSet) → List E → Type 0
-AllAscend writes_of [] = Unit {0}
-AllAscend writes_of (e ∷ es) = AreAscending (writes_of e).writes × AllAscend writes_of es
-
-run_ascends : {E : Type 0} (reads_of : E → ReadSet) (writes_of : E → WriteSet) (sound : E → Type 0) → ((e : E) → sound e → AreAscending (writes_of e).writes)
-    → (rows : List Row) (es : List E) → IsRun reads_of writes_of sound rows es → AllAscend writes_of es
-run_ascends reads_of writes_of sound law rows [] h = tt
-run_ascends reads_of writes_of sound law rows (e ∷ es) h = (law e h.0, run_ascends reads_of writes_of sound law (with_writes rows (writes_of e).writes) es h.2)
 
 -- the same where the versions of these entries begin above base
 record FirstAt {E : Type 0} (writes_of : E → WriteSet) (reads : ReadSet) (base from : ℕ) (es : List E) (version : ℕ) (key : List ℕ) : Type 0 where
@@ -79,27 +66,27 @@ unheld {E} writes_of reads base e es (Some found) n h = record {
     before (suc p) other l t at = h.before p other (omega arith) (omega arith) at
 
 -- the first entry that is looked at, given what is found after it
-looked_at : {E : Type 0} (writes_of : E → WriteSet) (reads : ReadSet) (base : ℕ) (e : E) (es : List E) (answer : Option (ℕ × List ℕ)) (o : Option (List ℕ)) → AreAscending (writes_of e).writes → first_held reads (writes_of e).writes ≡ o → IsFirstFrom writes_of reads (base + 1) 0 es answer → IsFirstFrom writes_of reads base 0 (e ∷ es) (this_or o (base + 1) answer)
-looked_at writes_of reads base e es answer None a n rest = unheld writes_of reads base e es answer (none_holds reads (writes_of e).writes n) rest
-looked_at writes_of reads base e es answer (Some key) a h rest = record {
+looked_at : {E : Type 0} (writes_of : E → WriteSet) (reads : ReadSet) (base : ℕ) (e : E) (es : List E) (answer : Option (ℕ × List ℕ)) (o : Option (List ℕ)) → first_held reads (writes_of e).writes ≡ o → IsFirstFrom writes_of reads (base + 1) 0 es answer → IsFirstFrom writes_of reads base 0 (e ∷ es) (this_or o (base + 1) answer)
+looked_at writes_of reads base e es answer None n rest = unheld writes_of reads base e es answer (none_holds reads (writes_of e).writes n) rest
+looked_at writes_of reads base e es answer (Some key) h rest = record {
   place = 0;
   entry = e;
   numbered = omega arith;
   later = omega arith;
   there = refl;
-  least = first_is_least reads (writes_of e).writes key a h;
+  least = first_is_least reads (writes_of e).writes key (writes_of e).ascending h;
   before = λ p other l t at. absurd (omega arith);
 }
 
-later_first : {E : Type 0} (writes_of : E → WriteSet) (reads : ReadSet) (base from start : ℕ) (es : List E) → start ≡ base + from → AllAscend writes_of es → IsFirstFrom writes_of reads base from es (later_from writes_of reads start (drop from es))
-later_first writes_of reads base zero start [] s a = λ p other l at. absurd (let f : None ≡ Some other = at in cc)
-later_first writes_of reads base (suc from) start [] s a = λ p other l at. absurd (let f : None ≡ Some other = at in cc)
-later_first writes_of reads base (suc from) start (e ∷ es) s a =
-    passed writes_of reads base from e es (later_from writes_of reads start (drop from es)) (later_first writes_of reads (base + 1) from start es (omega arith) a.1)
-later_first {E} writes_of reads base zero start (e ∷ es) s a =
+later_first : {E : Type 0} (writes_of : E → WriteSet) (reads : ReadSet) (base from start : ℕ) (es : List E) → start ≡ base + from → IsFirstFrom writes_of reads base from es (later_from writes_of reads start (drop from es))
+later_first writes_of reads base zero start [] s = λ p other l at. absurd (let f : None ≡ Some other = at in cc)
+later_first writes_of reads base (suc from) start [] s = λ p other l at. absurd (let f : None ≡ Some other = at in cc)
+later_first writes_of reads base (suc from) start (e ∷ es) s =
+    passed writes_of reads base from e es (later_from writes_of reads start (drop from es)) (later_first writes_of reads (base + 1) from start es (omega arith))
+later_first {E} writes_of reads base zero start (e ∷ es) s =
     subst (λ v. IsFirstFrom writes_of reads base 0 (e ∷ es) (this_or (first_held reads (writes_of e).writes) (v + 1) (later_from writes_of reads (v + 1) es))) (start_is base start s)
-    (looked_at writes_of reads base e es (later_from writes_of reads (base + 1) es) (first_held reads (writes_of e).writes) a.0 refl
-    (later_first writes_of reads (base + 1) 0 (base + 1) es (omega arith) a.1))
+    (looked_at writes_of reads base e es (later_from writes_of reads (base + 1) es) (first_held reads (writes_of e).writes) refl
+    (later_first writes_of reads (base + 1) 0 (base + 1) es (omega arith)))
   where
     start_is : (base start : ℕ) → start ≡ base + 0 → base ≡ start
     start_is base start s = omega arith
@@ -116,9 +103,7 @@ unbased writes_of reads snapshot es (Some found) h = record {
   before = h.before;
 }
 
--- In a run the first later write is the one that its name says.
-pub first_later_first : {E : Type 0} (reads_of : E → ReadSet) (writes_of : E → WriteSet) (sound : E → Type 0) → ((e : E) → sound e → AreAscending (writes_of e).writes)
-    → (rows : List Row) (es : List E) → IsRun reads_of writes_of sound rows es → (snapshot : ℕ) (reads : ReadSet) → IsFirst writes_of es snapshot reads (first_later writes_of es snapshot reads)
-first_later_first reads_of writes_of sound law rows es run snapshot reads =
-    unbased writes_of reads snapshot es (first_later writes_of es snapshot reads)
-    (later_first writes_of reads 0 snapshot snapshot es (omega arith) (run_ascends reads_of writes_of sound law rows es run))
+-- The first later write is the one that its name says.
+pub first_later_first : {E : Type 0} (writes_of : E → WriteSet) (es : List E) (snapshot : ℕ) (reads : ReadSet) → IsFirst writes_of es snapshot reads (first_later writes_of es snapshot reads)
+first_later_first writes_of es snapshot reads =
+    unbased writes_of reads snapshot es (first_later writes_of es snapshot reads) (later_first writes_of reads 0 snapshot snapshot es (omega arith))

@@ -4,4 +4,3 @@ pub mod Causes
 pub mod Place
 pub mod Commits
 pub mod Later
-pub mod TwoKeys

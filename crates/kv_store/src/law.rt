@@ -4,7 +4,7 @@ ghost use Rattle.fs_base.specs.declared.row.Row.{Row};
 ghost use Rattle.conflict_sets.specs.declared.sets.ReadSet.{ReadSet};
 ghost use Rattle.conflict_sets.specs.Rows.{IsAscending};
 ghost use Rattle.kv_store.specs.Commits.{IsCommitted};
-ghost use Rattle.kv_store.specs.Journal.{rows_at, first_later, IsRun};
+ghost use Rattle.kv_store.specs.Journal.{rows_at, first_later};
 ghost use Rattle.kv_store.specs.Later.{IsFirst};
 
 use conflict_sets::EntryLaw;
@@ -18,5 +18,5 @@ pub fn optimistic_commits<E: EntryLaw>()
 /// What the first later write is: no entry from the snapshot on wrote anything that the reads hold, or the entry of
 /// that version is the first that did, and the key is the least such. It does nothing; its contract is the law.
 pub fn first_later_is_least<E: EntryLaw>()
-    ensures { (config : Settings) (opening : List Row) (journal : List E) → IsRun E.reads_of E.writes_of (E.sound config) opening journal → (snapshot : ℕ) (reads : ReadSet) → IsFirst E.writes_of journal snapshot reads (first_later E.writes_of journal snapshot reads) }
+    ensures { (journal : List E) (snapshot : ℕ) (reads : ReadSet) → IsFirst E.writes_of journal snapshot reads (first_later E.writes_of journal snapshot reads) }
 {}

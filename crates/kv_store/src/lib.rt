@@ -5,8 +5,6 @@ mod law;
 mod read;
 mod rows;
 mod store;
-#[cfg(test)]
-mod tests;
 
 pub use law::{first_later_is_least, optimistic_commits};
 pub use store::{CommitError, KvState, Refused};

@@ -1,5 +1,5 @@
 -- A query leaves every tree as it is.
-use Rattle.std.proofs.Common.{◌≡◌, true}
+use Rattle.std.proofs.Common.{◌≡◌, ℕ, true}
 use Rattle.std.specs.Prelude.{Option, Some, None, Result, Ok, Err}
 use Rattle.std.specs.FinMap.{get}
 use Rattle.fs_base.specs.Config.{Settings}
@@ -21,7 +21,7 @@ use Rattle.tree_model.specs.declared.walk.Walked.{Walked}
 use Rattle.tree_model.specs.declared.walk.Walked.TheVariants.{At, AtParent, NoName, Stopped}
 use Rattle.tree_model.specs.Attributes.{attributes_of}
 use Rattle.tree_model.specs.Calls.{effect, effect_of, is_query}
-use Rattle.tree_model.specs.Effects.{Effect, Leaves, Makes, on_path}
+use Rattle.tree_model.specs.Effects.{Effect, Leaves, Makes, Settles, at_length, on_path}
 use Rattle.tree_model.specs.Finding.{at_end, if_there, found_of, stat_at, list_at, readlink_at, target_of}
 use Rattle.tree_model.specs.Tree.{Tree}
 use Rattle.tree_model.specs.Walk.{resolve}
@@ -29,6 +29,7 @@ use Rattle.tree_model.specs.Walk.{resolve}
 abbrev IsLeaving : Effect → Type 0
 IsLeaving (Leaves reply) = Unit {0}
 IsLeaving (Makes tree reply) = ⊥
+IsLeaving (Settles tree) = ⊥
 
 ends : (T : Tree) (place : Place) (end : WalkEnd) (then : Walked → Effect) → ((walked : Walked) → IsLeaving (then walked)) → IsLeaving (at_end T place end then)
 ends T place end then leaves = by_words (path_of place.text)
@@ -82,10 +83,11 @@ leaves C T q (calls.Fstat session) query = tt
 leaves C T q calls.Doomed query = tt
 leaves C T q call query = absurd (cc)
 
-never_made : (e : Effect) (tree : Tree) (reply : Reply) → IsLeaving e → e ≡ Makes tree reply → ⊥
-never_made (Leaves told) tree reply h is = cc
-never_made (Makes other told) tree reply h is = h
+never_made : (e : Effect) (settled : ℕ) (tree : Tree) (reply : Reply) → IsLeaving e → at_length settled e ≡ Makes tree reply → ⊥
+never_made (Leaves told) settled tree reply h is = cc
+never_made (Makes other told) settled tree reply h is = h
+never_made (Settles new) settled tree reply h is = h
 
 -- no query makes a tree
-pub query_makes_none : (C : Settings) (T : Tree) (q : Request) (tree : Tree) (reply : Reply) → is_query q.call ≡ true → effect C T q ≡ Makes tree reply → ⊥
-query_makes_none C T q tree reply query is = never_made (effect C T q) tree reply (leaves C T q q.call query) is
+pub query_makes_none : (C : Settings) (T : Tree) (q : Request) (settled : ℕ) (tree : Tree) (reply : Reply) → is_query q.call ≡ true → at_length settled (effect C T q) ≡ Makes tree reply → ⊥
+query_makes_none C T q settled tree reply query is = never_made (effect C T q) settled tree reply (leaves C T q q.call query) is

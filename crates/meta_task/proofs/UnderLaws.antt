@@ -1,7 +1,8 @@
 -- What is known of an operation under way, from step to step.
-use Rattle.std.proofs.Common.{inl, inr, ◌≡◌, Bool, true, false, cond, List, ◌∷◌, refl, sym, subst, ◌∙◌}
+use Rattle.std.proofs.Common.{inl, inr, ◌≡◌, Bool, true, false, cond, List, ◌∷◌, refl, sym, ap, subst, ◌∙◌}
 use Rattle.std.specs.Prelude.{Some}
 use Rattle.conflict_sets.specs.declared.sets.ReadSet.{ReadSet}
+use Rattle.conflict_sets.specs.declared.sets.WriteSet.{WriteSet}
 use Rattle.fs_base.specs.Config.{Settings}
 use Rattle.fs_base.specs.declared.call.Request.{Request}
 use Rattle.fs_base.specs.declared.reply.Reply.{Reply}
@@ -11,6 +12,7 @@ use Rattle.key_schema.specs.declared.key.Key.TheVariants as keys
 use Rattle.row_tree.specs.TreeOf.{tree_of}
 use Rattle.row_tree.specs.Values.{spelled_value}
 use Rattle.tree_model.specs.Calls.{effect, is_query}
+use Rattle.tree_model.specs.Effects.{at_length, settled_by}
 use Rattle.txn_task.specs.Agreeing.{Agrees}
 use Rattle.txn_task.specs.Copies.{IsLook}
 use Rattle.txn_task.specs.Transactions.{Transaction, noted}
@@ -102,17 +104,17 @@ under_told C q reads op reply under told = by_kind under.new
 -- ---- commits
 
 pub under_sound : (C : Settings) (q : Request) (op : OpTask) (t : Transaction) (reply : Reply) (asked : List Asked) → IsTaken C q → is_query q.call ≡ false → IsUnder C q t.reads op → IsOpCommit C (effect_of op) t reply asked
-    → IsSoundEntry C (record { request = q; reply = reply; asked = asked; reads = t.reads; writes = record { writes = set_write (spelled_key (keys.Idem q.client)) (Some (spelled_value (kept_value q reply))) t.writes } })
-under_sound C q op t reply asked taken update under made = by_kind under.new
+    → (writes : WriteSet) → writes.writes ≡ set_write (spelled_key (keys.Idem q.client)) (Some (spelled_value (kept_value q reply))) t.writes → IsSoundEntry C (record { request = q; reply = reply; asked = asked; reads = t.reads; writes = writes })
+under_sound C q op t reply asked taken update under made writes is = by_kind under.new
   where
-    by_kind : IsNew q t.reads → IsSoundEntry C (record { request = q; reply = reply; asked = asked; reads = t.reads; writes = record { writes = set_write (spelled_key (keys.Idem q.client)) (Some (spelled_value (kept_value q reply))) t.writes } })
+    by_kind : IsNew q t.reads → IsSoundEntry C (record { request = q; reply = reply; asked = asked; reads = t.reads; writes = writes })
     by_kind (inl query) = absurd (let e : true ≡ false = sym query ∙ update in cc)
-    by_kind (inr new) = sound_entry C q (effect_of op) t reply asked update under.effect made new.1 taken.client taken.valid.number taken.number
+    by_kind (inr new) = sound_entry C q (effect_of op) t reply asked update under.effect made new.1 taken.client taken.valid.number taken.number writes is
 
 -- no rows agree with what a query has read that would commit
 pub query_told : (C : Settings) (q : Request) (op : OpTask) (t : Transaction) (reply : Reply) (asked : List Asked) → is_query q.call ≡ true → IsUnder C q t.reads op → IsOpCommit C (effect_of op) t reply asked → IsJustifiedReply C q t.reads reply
-query_told C q op t reply asked query under made rows T asc tree agrees =
+query_told C q op t reply asked query under made rows T asc tree agrees settled =
     let S = tree.0 in
     let at : Agrees S t.reads = record { rows = rows; ascending = asc; spells = tree.1; agrees = agrees } in
     let done = made.sound S tree.2 at in
-    absurd (query_makes_none C (tree_of S) q (tree_of done.0) reply query (sym (under.effect S tree.2 at) ∙ done.3))
+    absurd (query_makes_none C (tree_of S) q (settled_by reply) (tree_of done.0) reply query (ap (at_length (settled_by reply)) (sym (under.effect S tree.2 at)) ∙ done.3))

@@ -2,6 +2,7 @@ ghost use Rattle.std.specs.Prelude.{◌≡◌, [], Some, IfOk, OnOk};
 ghost use Rattle.path_walk.specs.Owed.{IsOpCommit, IsOpStep, IsNewAsk, MayAsk, GoesOn, LeavesWrites};
 ghost use Rattle.path_walk.specs.Footprint.{footprint};
 ghost use Rattle.path_walk.specs.Sound.{IsJustifiedReply, IsSoundEntry, kept_value};
+ghost use Rattle.conflict_sets.specs.declared.sets.WriteSet.{WriteSet};
 ghost use Rattle.key_schema.specs.Keys.{spelled_key};
 ghost use Rattle.key_schema.specs.declared.key.Key.TheVariants as keys;
 ghost use Rattle.row_tree.specs.Values.{KeptValue, spelled_value};
@@ -57,7 +58,8 @@ struct Parts {
 
 /// The parts of an attempt's entry; the kept reply is the last write.
 fn parts_of(alloc: Global, request: &Request, txn: &mut Txn, reply: &Reply) -> Result<Parts, Memory>
-    ensures parts { IfOk result (λ parts. parts ≡ record { request = request.now; kept = reply.now; reads = txn.old.reads; writes = record { writes = set_write (spelled_key (keys.Idem request.now.client)) (Some (spelled_value (kept_value request.now reply.now))) txn.old.writes } }) }
+    ensures parts { IfOk result (λ parts. (parts.request ≡ request.now) × (parts.kept ≡ reply.now) × (parts.reads ≡ txn.old.reads)) }
+    ensures writes { IfOk result (λ parts. parts.writes.writes ≡ set_write (spelled_key (keys.Idem request.now.client)) (Some (spelled_value (kept_value request.now reply.now))) txn.old.writes) }
     ensures kept { OnOk result ((txn.new.reads ≡ txn.old.reads) × (txn.new.snapshot ≡ txn.old.snapshot)) }
 {
     let bytes = kept_bytes(alloc, request.number, reply)?;
@@ -107,7 +109,7 @@ impl State {
     /// The commit, with the kept reply as its last write.
     fn commit(&mut self, reply: Reply, asked: Items<Asked>) -> Result<Ask, Memory>
         requires going { IsGoing self.old }
-        requires sound { IsSoundEntry self.old.config (record { request = self.old.request; reply = reply; asked = asked; reads = self.old.txn.reads; writes = record { writes = set_write (spelled_key (keys.Idem self.old.request.client)) (Some (spelled_value (kept_value self.old.request reply))) self.old.txn.writes } }) }
+        requires sound { (writes : WriteSet) → writes.writes ≡ set_write (spelled_key (keys.Idem self.old.request.client)) (Some (spelled_value (kept_value self.old.request reply))) self.old.txn.writes → IsSoundEntry self.old.config (record { request = self.old.request; reply = reply; asked = asked; reads = self.old.txn.reads; writes = writes }) }
         ensures state { IsState self.new }
         ensures goes { IfOk result (λ next. GoesTo (view_of self.old) (view_of self.new) next) }
     {

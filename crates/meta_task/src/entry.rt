@@ -31,6 +31,4 @@ impl EntryLaw for MetaEntry {
     }
 
     ghost keeps_good = { λ C e rows asc sound good agrees. sound_keeps_good C e.entry rows asc sound good agrees };
-
-    ghost writes_ascend = { λ C e sound. sound.ascending };
 }

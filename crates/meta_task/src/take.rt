@@ -246,6 +246,7 @@ impl State {
             }
             Answer::Ended(_) => unreachable!(),
             Answer::Did(_) => unreachable!(),
+            Answer::NodeRefused(_) => unreachable!(),
         }
     }
 }

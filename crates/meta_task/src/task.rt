@@ -17,10 +17,14 @@ pub struct MetaTask {
 }
 
 impl Model for MetaTask {
+    ghost use Rattle.std.specs.Coded.{codes};
+    ghost use Rattle.conflict_sets.specs.contracts.sets.WriteSet as write_set;
     ghost use Rattle.meta_task.specs.State.{view_of, IsState};
     ghost use Rattle.meta_task.specs.Task.{TaskView};
 
     ghost Value = { TaskView };
+
+    ghost coded = { Prim.hlevel (codes, write_set.the_row.coded) };
 
     ghost view = { λ t. view_of t.state };
 

@@ -14,6 +14,7 @@ use Rattle.fs_base.specs.declared.reply.Reply.{Reply}
 use Rattle.key_schema.specs.declared.key.Key.{Key}
 use Rattle.tree_model.specs.declared.kept.KeptReply.{KeptReply}
 use Rattle.tree_model.specs.Calls.{apply, is_built, is_query}
+use Rattle.tree_model.specs.Effects.{settled_by}
 use Rattle.tree_model.specs.Tree.{Tree, new_tree}
 use Rattle.txn_task.specs.declared.messages.Entry.{Entry}
 use Rattle.txn_task.specs.declared.outcome.Receipt.{Receipt}
@@ -23,7 +24,8 @@ use Rattle.client_core.specs.declared.plan.Op.{Op}
 use Rattle.client_core.specs.declared.plan.Op.TheVariants as ops
 use Rattle.client_core.specs.declared.plan.Plan.{Plan}
 use Rattle.client_core.specs.declared.plan.Script.{Script}
-use Rattle.run_record.specs.Legal.{AreReplies, EntryAt, tree_after, tree_at}
+use Rattle.histories.proofs.Versions.{reply_at, tree_next}
+use Rattle.run_record.specs.Legal.{AreReplies, EntryAt, tree_at}
 use Rattle.run_record.specs.Receipts.{AreConflicts, AreReceipts, Follow, IsOf, IsSeen, IsSection, NamesEntry, Rises, fronts_of}
 use Rattle.run_record.specs.Replies.{replies_text}
 use Rattle.run_record.specs.Right.{AreSections, IsNoRefusal, IsRight, IsRightEntry}
@@ -32,7 +34,7 @@ use Rattle.run_record.specs.declared.run.Record.{Record}
 use Rattle.world_core.proofs.Growth.{EntryAt_within}
 use Rattle.meta_top.specs.Alone.{commits, listed, receipt_of, receipts_from, receipts_of, version_after}
 use Rattle.meta_top.specs.Top.{IsRunOf}
-use Rattle.meta_top.proofs.Marks.{IsNewIn, entry_mark, kept_after, told_mark}
+use Rattle.meta_top.proofs.Marks.{IsNewIn, entry_mark, kept_after, length_free, told_mark}
 use Rattle.meta_top.proofs.Naming.{AreNamedFrom, naming, journal_short, front_above, named_rest, of_commit, of_seen, own_entry, place_next, version_seen}
 
 -- ---- requests and receipts by their parts
@@ -61,22 +63,6 @@ same_receipt a b op number server stamp call reply committed version conflicts g
 same_listed : (a b : Listed) → a.client ≡ b.client → a.fronts ≡ b.fronts → a.receipt ≡ b.receipt → a ≡ b
 same_listed a b client fronts receipt =
     ap (λ n. record a { client = n }) client ∙ (ap (λ (ns : List ℕ). record a { client = b.client; fronts = ns }) fronts ∙ ap (λ (r : Receipt). record b { receipt = r }) receipt)
-
--- ---- the tree from entry to entry
-
-tree_next : (C : Settings) (T : Tree) (es : List Entry) (n : ℕ) (e : Entry) → EntryAt es n e → tree_after C T (take (suc n) es) ≡ (apply C (tree_after C T (take n es)) e.request).0
-tree_next C T [] n e at = absurd (let k : None ≡ Some e = at in cc)
-tree_next C T (x ∷ es) zero e at =
-    let same : x ≡ e = same_Some x e at in
-    ap (λ (y : Entry). (apply C T y.request).0) same
-tree_next C T (x ∷ es) (suc n) e at = tree_next C (apply C T x.request).0 es n e at
-
-reply_at : (C : Settings) (T : Tree) (es : List Entry) → AreReplies C T es → (n : ℕ) (e : Entry) → EntryAt es n e → (apply C (tree_after C T (take n es)) e.request).1 ≡ e.reply
-reply_at C T [] replies n e at = absurd (let k : None ≡ Some e = at in cc)
-reply_at C T (x ∷ es) replies zero e at =
-    let same : x ≡ e = same_Some x e at in
-    subst (λ (y : Entry). (apply C T y.request).1 ≡ y.reply) same replies.0
-reply_at C T (x ∷ es) replies (suc n) e at = reply_at C (apply C T x.request).0 es replies.1 n e at
 
 -- ---- an operation's call is built, and its number is new
 
@@ -108,8 +94,8 @@ record IsOwn (script : Script) (e : Entry) : Type 0 where
 
 -- the receipt is the plain tree's, and its version the tree's that follows
 record IsNext (C : Settings) (journal : List Entry) (script : Script) (op v : ℕ) (step : Op) (l : Listed) : Type 0 where
-  same : l ≡ listed C v (receipt_of script op v step (apply C (tree_at C journal v) (request_of script op step)).1)
-  next : tree_at C journal l.receipt.version ≡ (apply C (tree_at C journal v) (request_of script op step)).0
+  same : l ≡ listed C v (receipt_of script op v step (apply C (tree_at C journal v) (request_of script op step) 0).1)
+  next : tree_at C journal l.receipt.version ≡ (apply C (tree_at C journal v) (request_of script op step) 0).0
 
 -- a receipt with the right reply, mark and version is the one
 made : (C : Settings) (script : Script) (op v : ℕ) (step : Op) (reply : Reply) (l : Listed) → l.client ≡ 0 → l.fronts ≡ fronts_of C v → l.receipt.op ≡ op → IsOf (request_of script op step) l.receipt → l.receipt.gone ≡ []
@@ -140,29 +126,33 @@ module _ (C : Settings) (attempts : ℕ) (script : Script) (journal : List Entry
         let at : EntryAt journal v names.entry = subst (λ n. EntryAt journal n names.entry) place names.at in
         let mine : IsOwn script names.entry = own v names.entry at in
         let entry_is : names.entry.request ≡ request_of script op step = same_request names.entry.request h.0.request names.server names.client names.number names.stamp names.call ∙ request_is in
-        let reply : (apply C (tree_at C journal v) (request_of script op step)).1 ≡ l.receipt.reply =
-        ap (λ (r : Request). (apply C (tree_at C journal v) r).1) (sym entry_is) ∙ (reply_at C (new_tree C) journal replies v names.entry at ∙ names.reply) in
-        let accepted : IsNoRefusal (apply C (tree_at C journal v) (request_of script op step)).1 = subst IsNoRefusal (names.reply ∙ sym reply) mine.accepted in
         let update : is_query (call_of step) ≡ false = ap (λ (r : Request). is_query r.call) (sym entry_is) ∙ mine.update in
-        let mark : commits (call_of step) (apply C (tree_at C journal v) (request_of script op step)).1 ≡ true = entry_mark (request_of script op step) (apply C (tree_at C journal v) (request_of script op step)).1 update accepted in
+        let length : ℕ = settled_by names.entry.reply in
+        let any : apply C (tree_at C journal v) (request_of script op step) length ≡ apply C (tree_at C journal v) (request_of script op step) 0 =
+        length_free C (tree_at C journal v) (request_of script op step) length (built step) update new in
+        let reply : (apply C (tree_at C journal v) (request_of script op step) 0).1 ≡ l.receipt.reply =
+        ap (λ (p : Tree × Reply). p.1) (sym any)
+        ∙ (ap (λ (r : Request). (apply C (tree_at C journal v) r length).1) (sym entry_is) ∙ (reply_at C (new_tree C) journal replies v names.entry at ∙ names.reply)) in
+        let accepted : IsNoRefusal (apply C (tree_at C journal v) (request_of script op step) 0).1 = subst IsNoRefusal (names.reply ∙ sym reply) mine.accepted in
+        let mark : commits (call_of step) (apply C (tree_at C journal v) (request_of script op step) 0).1 ≡ true = entry_mark (request_of script op step) (apply C (tree_at C journal v) (request_of script op step) 0).1 update accepted in
         let version : l.receipt.version ≡ v + 1 = names.version ∙ ap (λ n. n + 1) place in
         let above : v ≤ h.0.front = front_above C attempts journal script.id v l rest h.0 rises in
         let later : h.0.front ≤ names.place = names.above in
         let front : h.0.front ≡ v = omega arith in
         record {
-          same = made C script op v step (apply C (tree_at C journal v) (request_of script op step)).1 l follow.0 (h.0.fronts ∙ ap (fronts_of C) front) follow.1 follow.2 follow.3 none (sym reply) (is ∙ sym mark)
+          same = made C script op v step (apply C (tree_at C journal v) (request_of script op step) 0).1 l follow.0 (h.0.fronts ∙ ap (fronts_of C) front) follow.1 follow.2 follow.3 none (sym reply) (is ∙ sym mark)
               (version ∙ ap (λ b. cond b (v + 1) v) (sym mark));
-          next = ap (tree_at C journal) (version ∙ add-one v) ∙ (tree_next C (new_tree C) journal v names.entry at ∙ ap (λ (r : Request). (apply C (tree_at C journal v) r).0) entry_is);
+          next = ap (tree_at C journal) (version ∙ add-one v) ∙ (tree_next C (new_tree C) journal v names.entry at ∙ (ap (λ (r : Request). (apply C (tree_at C journal v) r length).0) entry_is ∙ ap (λ (p : Tree × Reply). p.0) any));
         }
 
-    seen_told : l.receipt.committed ≡ false → apply C (tree_at C journal v) (request_of script op step) ≡ (tree_at C journal v, l.receipt.reply)
+    seen_told : l.receipt.committed ≡ false → apply C (tree_at C journal v) (request_of script op step) 0 ≡ (tree_at C journal v, l.receipt.reply)
     seen_told is =
         let seen : IsSeen C attempts journal h.0.request h.0.front l.receipt = of_seen C attempts journal script.id l h.0 is in
         let version : l.receipt.version ≡ v = version_seen C attempts journal script.id v l rest h rises named is in
         elim seen.told [
           | inl told ↦
-              (let now : apply C (tree_at C journal v) h.0.request ≡ (tree_at C journal v, l.receipt.reply) = subst (λ n. apply C (tree_at C journal n) h.0.request ≡ (tree_at C journal n, l.receipt.reply)) version told in
-              subst (λ (r : Request). apply C (tree_at C journal v) r ≡ (tree_at C journal v, l.receipt.reply)) request_is now)
+              (let now : apply C (tree_at C journal v) h.0.request 0 ≡ (tree_at C journal v, l.receipt.reply) = subst (λ n. apply C (tree_at C journal n) h.0.request 0 ≡ (tree_at C journal n, l.receipt.reply)) version (told 0) in
+              subst (λ (r : Request). apply C (tree_at C journal v) r 0 ≡ (tree_at C journal v, l.receipt.reply)) request_is now)
           | inr other ↦ elim other [
             | inl spent ↦ absurd (let spent_all : length l.receipt.conflicts ≡ attempts = spent.1 in let nothing : length l.receipt.conflicts ≡ 0 = ap length none in omega arith)
             | inr full ↦ absurd (let all : length journal ≡ 200000 = full.1 in omega arith)
@@ -173,15 +163,15 @@ module _ (C : Settings) (attempts : ℕ) (script : Script) (journal : List Entry
     seen_next is =
         let seen : IsSeen C attempts journal h.0.request h.0.front l.receipt = of_seen C attempts journal script.id l h.0 is in
         let version : l.receipt.version ≡ v = version_seen C attempts journal script.id v l rest h rises named is in
-        let told : apply C (tree_at C journal v) (request_of script op step) ≡ (tree_at C journal v, l.receipt.reply) = seen_told is in
-        let reply : (apply C (tree_at C journal v) (request_of script op step)).1 ≡ l.receipt.reply = ap (λ (p : Tree × Reply). p.1) told in
+        let told : apply C (tree_at C journal v) (request_of script op step) 0 ≡ (tree_at C journal v, l.receipt.reply) = seen_told is in
+        let reply : (apply C (tree_at C journal v) (request_of script op step) 0).1 ≡ l.receipt.reply = ap (λ (p : Tree × Reply). p.1) told in
         let mark : commits (call_of step) l.receipt.reply ≡ false = told_mark C (tree_at C journal v) (request_of script op step) l.receipt.reply (built step) new told in
-        let mark_is : commits (call_of step) (apply C (tree_at C journal v) (request_of script op step)).1 ≡ false = ap (commits (call_of step)) reply ∙ mark in
+        let mark_is : commits (call_of step) (apply C (tree_at C journal v) (request_of script op step) 0).1 ≡ false = ap (commits (call_of step)) reply ∙ mark in
         let above : v ≤ h.0.front = front_above C attempts journal script.id v l rest h.0 rises in
         let later : h.0.front ≤ l.receipt.version = seen.above in
         let front : h.0.front ≡ v = omega arith in
         record {
-          same = made C script op v step (apply C (tree_at C journal v) (request_of script op step)).1 l follow.0 (h.0.fronts ∙ ap (fronts_of C) front) follow.1 follow.2 follow.3 none (sym reply) (is ∙ sym mark_is)
+          same = made C script op v step (apply C (tree_at C journal v) (request_of script op step) 0).1 l follow.0 (h.0.fronts ∙ ap (fronts_of C) front) follow.1 follow.2 follow.3 none (sym reply) (is ∙ sym mark_is)
               (version ∙ ap (λ b. cond b (v + 1) v) (sym mark_is));
           next = ap (tree_at C journal) version ∙ sym (ap (λ (p : Tree × Reply). p.0) told);
         }
@@ -202,14 +192,14 @@ module _ (C : Settings) (attempts : ℕ) (script : Script) (journal : List Entry
   along op v (step ∷ steps) (l ∷ rest) follow h rises named kept =
       let new : IsNewIn (tree_at C journal v) (request_of script op step) = below (get (tree_at C journal v).kept script.id.0) op kept in
       let one : IsNext C journal script op v step l = one_next op v step steps l rest follow h rises named new in
-      let version : l.receipt.version ≡ version_after v (call_of step) (apply C (tree_at C journal v) (request_of script op step)).1 = ap (λ (x : Listed). x.receipt.version) one.same in
+      let version : l.receipt.version ≡ version_after v (call_of step) (apply C (tree_at C journal v) (request_of script op step) 0).1 = ap (λ (x : Listed). x.receipt.version) one.same in
       let others : rest ≡ receipts_from C script (tree_at C journal l.receipt.version) (op + 1) l.receipt.version steps =
       along (op + 1) l.receipt.version steps rest follow.4 h.1 rises.2 (named_rest C attempts journal script.id v l rest h rises named) (kept_next op v step steps l rest follow h rises named new) in
       ap (λ (x : Listed). x ∷ rest) one.same
-      ∙ ap (λ (xs : List Listed). listed C v (receipt_of script op v step (apply C (tree_at C journal v) (request_of script op step)).1) ∷ xs)
+      ∙ ap (λ (xs : List Listed). listed C v (receipt_of script op v step (apply C (tree_at C journal v) (request_of script op step) 0).1) ∷ xs)
       (others
       ∙ (ap (λ (T : Tree). receipts_from C script T (op + 1) l.receipt.version steps) one.next
-      ∙ ap (λ n. receipts_from C script (apply C (tree_at C journal v) (request_of script op step)).0 (op + 1) n steps) version))
+      ∙ ap (λ n. receipts_from C script (apply C (tree_at C journal v) (request_of script op step) 0).0 (op + 1) n steps) version))
 
 -- ---- the whole record
 

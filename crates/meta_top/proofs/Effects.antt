@@ -15,7 +15,7 @@ use Rattle.tree_model.specs.declared.node.NodePart.TheVariants.{Dir, File, Link}
 use Rattle.tree_model.specs.declared.walk.Walked.{Walked}
 use Rattle.tree_model.specs.declared.walk.Walked.TheVariants.{At, AtParent, NoName, Stopped}
 use Rattle.tree_model.specs.Calls.{effect_of, is_built, is_query}
-use Rattle.tree_model.specs.Effects.{Effect, Leaves, Makes, refuses, on_path}
+use Rattle.tree_model.specs.Effects.{Effect, Leaves, Makes, Settles, refuses, on_path}
 use Rattle.tree_model.specs.Tree.{Tree, next_at}
 use Rattle.tree_model.specs.Creating.{make, make_at, add_child, add_in, unless_there, is_layout, new_dir, new_file, new_link}
 use Rattle.tree_model.specs.Finding.{if_there, on_node}
@@ -28,10 +28,11 @@ use Rattle.meta_top.specs.Alone.{is_refusal}
 
 -- ---- what an effect may be
 
--- an update leaves it exactly where its reply is a refusal
+-- an update leaves it exactly where its reply is a refusal; none that is built settles a length
 abbrev pub Refusing : Effect → Type 0
 Refusing (Leaves reply) = is_refusal reply ≡ true
 Refusing (Makes tree reply) = is_refusal reply ≡ false
+Refusing (Settles tree) = ⊥
 
 by_words : (P : Effect → Type 0) (path : Result Path Code) (then : Path → Effect) → ((code : Code) → P (refuses code)) → ((path : Path) → P (then path)) → P (on_path path then)
 by_words P (Err code) then refused going = refused code

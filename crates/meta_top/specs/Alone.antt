@@ -45,11 +45,11 @@ receipt_of script op version step reply =
 abbrev pub listed : Settings → ℕ → Receipt → Listed
 listed C version receipt = record { client = 0; fronts = fronts_of C version; receipt = receipt }
 
--- the receipts of the operations from op on, over the tree at this version
+-- the receipts of the operations from op on, over the tree at this version; none of them settles a length
 unfoldable pub receipts_from : Settings → Script → Tree → ℕ → ℕ → List Op → List Listed
 receipts_from C script T op version [] = []
 receipts_from C script T op version (step ∷ steps) =
-    let answered = apply C T (request_of script op step) in
+    let answered = apply C T (request_of script op step) 0 in
     listed C version (receipt_of script op version step answered.1)
     ∷ receipts_from C script answered.0 (op + 1) (version_after version (call_of step) answered.1) steps
 

@@ -25,7 +25,7 @@ use Rattle.row_tree.specs.WellFormed.{IsWellFormed}
 use Rattle.row_tree.proofs.Changing.{tree_with_row, changes_row}
 use Rattle.tree_model.specs.declared.walk.Walked.TheVariants.{At}
 use Rattle.tree_model.specs.Attributes.{changed}
-use Rattle.tree_model.specs.Effects.{Effect, Makes}
+use Rattle.tree_model.specs.Effects.{Effect, Makes, at_length}
 use Rattle.tree_model.specs.Finding.{setattr_at}
 use Rattle.tree_model.specs.Tree.{Tree}
 use Rattle.tree_model.proofs.MapLaws.{ids, set_present}
@@ -77,7 +77,7 @@ module _ (id : ℕ) (kind : Kind) (stamp : ℕ) (given : Changes) (may : MaySet 
   )
 
   sound : (C : Settings) (writes : List Write) → ((S : TypedRows) → Agrees S reads → LeadsTo writes S (with_row S id (new))) → IsSoundEffect C does reads writes Done
-  sound C writes leads S good agrees = let made = makes C S good agrees in (with_row S id (new), leads S agrees, made.0, made.1)
+  sound C writes leads S good agrees = let made = makes C S good agrees in (with_row S id (new), leads S agrees, made.0, ap (at_length 0) made.1)
 
   -- a row put again is the row that stood there
   put_again : new ≡ row → (S : TypedRows) → Agrees S reads → LeadsTo [] S (with_row S id (new))

@@ -19,7 +19,7 @@ use Rattle.tree_model.specs.declared.new_node.NewPart.{NewPart}
 use Rattle.tree_model.specs.declared.new_node.NewPart.TheVariants as new
 use Rattle.tree_model.specs.declared.walk.Walked.TheVariants.{AtParent}
 use Rattle.tree_model.specs.Creating.{id_of, is_layout, part_for, make_at}
-use Rattle.tree_model.specs.Effects.{Effect}
+use Rattle.tree_model.specs.Effects.{Effect, at_length}
 use Rattle.tree_model.specs.Tree.{Tree, next_at}
 use Rattle.tree_model.proofs.MapLaws.{some_or_none}
 use Rattle.txn_task.specs.Agreeing.{Agrees, AreWrites}
@@ -108,7 +108,7 @@ module _ (task : CreateTask) (reads : ReadSet) (dir : ℕ) (name : List ℕ) whe
             with_node S task.server dir name (row_at id),
             leads_to_node task.server dir name ready.server small named (row_at id) number below (row_fits task.config task.node task.stamp id dir layout (in_range fits)) S (may.next S agrees),
             one.0,
-            one.1,
+            ap (at_length 0) one.1,
           )
         where
           apart : number ≡ 4294967295 → ⊥

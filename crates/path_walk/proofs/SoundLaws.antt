@@ -14,6 +14,7 @@ use Rattle.conflict_sets.specs.Reads as bytes
 use Rattle.conflict_sets.specs.Rows.{IsAscending, value_at_key, with_writes}
 use Rattle.conflict_sets.specs.declared.sets.ReadSet.{ReadSet}
 use Rattle.conflict_sets.specs.declared.sets.Write.{Write}
+use Rattle.conflict_sets.specs.declared.sets.WriteSet.{WriteSet}
 use Rattle.conflict_sets.proofs.KeyOrder.{key_self, key_exact}
 use Rattle.conflict_sets.proofs.RowLemmas.{by_place}
 use Rattle.fs_base.specs.Config.{Settings}
@@ -41,9 +42,9 @@ use Rattle.row_tree.proofs.OneValue.{one_value_each}
 use Rattle.row_tree.proofs.SpellingLaws.{found_back, lookup-form}
 use Rattle.tree_model.specs.Calls.{effect, apply, is_query}
 use Rattle.tree_model.specs.Creating.{id_of}
-use Rattle.tree_model.specs.Effects.{Effect, Makes}
+use Rattle.tree_model.specs.Effects.{Effect, Makes, at_length, settled_by}
 use Rattle.tree_model.specs.Tree.{Tree, next_at}
-use Rattle.txn_task.specs.Agreeing.{Agrees, AreWrites, LeadsTo}
+use Rattle.txn_task.specs.Agreeing.{Agrees, HaveValidKeys, LeadsTo}
 use Rattle.txn_task.specs.Transactions.{Transaction}
 use Rattle.txn_task.specs.Writes.{set_write, written_at}
 use Rattle.txn_task.specs.declared.messages.Asked.{Asked}
@@ -128,17 +129,17 @@ module _ (C : Settings) (q : Request) (f : Tree → Effect) (t : Transaction) (r
     agreeing : (rows : List Row) (T : Tree) → IsAscending rows → (tree : HasTree C rows T) → bytes.Agrees rows t.reads → Agrees tree.0 t.reads
     agreeing rows T asc tree agrees = record { rows = rows; ascending = asc; spells = tree.1; agrees = agrees }
 
-    acts : (rows : List Row) (T : Tree) → IsAscending rows → HasTree C rows T → bytes.Agrees rows t.reads → (U : Tree) × HasTree C (with_writes rows all) U × (apply C T q ≡ (U, reply))
+    acts : (rows : List Row) (T : Tree) → IsAscending rows → HasTree C rows T → bytes.Agrees rows t.reads → (U : Tree) × HasTree C (with_writes rows all) U × (apply C T q (settled_by reply) ≡ (U, reply))
     acts rows T asc tree agrees =
         let whole = whole_update C q f t.reads t.writes reply update same made.sound before client range tree.0 tree.2 (agreeing rows T asc tree agrees) in
-        (tree_of whole.0, (whole.0, whole.1.leads rows asc tree.1, whole.2, refl), ap (λ (x : Tree). apply C x q) (sym tree.3) ∙ whole.3)
+        (tree_of whole.0, (whole.0, whole.1.leads rows asc tree.1, whole.2, refl), ap (λ (x : Tree). apply C x q (settled_by reply)) (sym tree.3) ∙ whole.3)
 
     -- it is an effect that makes a tree
-    makes : (rows : List Row) (T : Tree) → IsAscending rows → HasTree C rows T → bytes.Agrees rows t.reads → (V : Tree) × (effect C T q ≡ Makes V reply)
+    makes : (rows : List Row) (T : Tree) → IsAscending rows → HasTree C rows T → bytes.Agrees rows t.reads → (V : Tree) × (at_length (settled_by reply) (effect C T q) ≡ Makes V reply)
     makes rows T asc tree agrees =
         let at = agreeing rows T asc tree agrees in
         let done = made.sound tree.0 tree.2 at in
-        (tree_of done.0, ap (λ (x : Tree). effect C x q) (sym tree.3) ∙ (sym (same tree.0 tree.2 at) ∙ done.3))
+        (tree_of done.0, ap (λ (x : Tree). at_length (settled_by reply) (effect C x q)) (sym tree.3) ∙ (ap (at_length (settled_by reply)) (sym (same tree.0 tree.2 at)) ∙ done.3))
 
     fresh : (rows : List Row) (T : Tree) → IsAscending rows → HasTree C rows T → bytes.Agrees rows t.reads → MatchOption (get T.kept q.client.0) ⊤ (λ row. row.number < q.number)
     fresh rows T asc tree agrees =
@@ -170,21 +171,19 @@ module _ (C : Settings) (q : Request) (f : Tree → Effect) (t : Transaction) (r
         let mine = made.kept.doomed id l v (sym (written key ∙ ap (λ b. cond b (Some (Some bytes_kept)) (written_at t.writes key)) other) ∙ is) in
         write_changes rows tree.0 (keys.Gc id) mine.0 tree.1 l mine.2 (mine.3 tree.0 tree.2 (agreeing rows T asc tree agrees)) (e ∙ mine.1)
 
-    pub sound_entry : IsSoundEntry C (record { request = q; reply = reply; asked = asked; reads = t.reads; writes = record { writes = set_write (spelled_key (keys.Idem q.client)) (Some (spelled_value (kept_value q reply))) t.writes } })
-    sound_entry =
-        let writes : AreWrites all = are_writes_put (keys.Idem q.client) (Some bytes_kept) t.writes client made.writes in
-        record {
-          acts = acts;
-          makes = makes;
-          fresh = fresh;
-          ascending = writes.ascending;
-          valid = writes.valid;
-          keeps = written own ∙ ap (λ o. cond (is_eq o) (Some (Some bytes_kept)) (written_at t.writes own)) (key_self own);
-          kept = kept_changes;
-          doomed = doomed_changes;
-          update = update;
-          none_asked = made.none_asked;
-        }
+    -- a transaction with these writes is a sound entry
+    pub sound_entry : (writes : WriteSet) → writes.writes ≡ set_write (spelled_key (keys.Idem q.client)) (Some (spelled_value (kept_value q reply))) t.writes → IsSoundEntry C (record { request = q; reply = reply; asked = asked; reads = t.reads; writes = writes })
+    sound_entry writes is = record {
+      acts = λ rows T asc tree agrees. subst (λ ws. (U : Tree) × HasTree C (with_writes rows ws) U × (apply C T q (settled_by reply) ≡ (U, reply))) (sym is) (acts rows T asc tree agrees);
+      makes = makes;
+      fresh = fresh;
+      valid = subst HaveValidKeys (sym is) (are_writes_put (keys.Idem q.client) (Some bytes_kept) t.writes client made.writes).valid;
+      keeps = ap (λ ws. written_at ws own) is ∙ (written own ∙ ap (λ o. cond (is_eq o) (Some (Some bytes_kept)) (written_at t.writes own)) (key_self own));
+      kept = λ c l. subst (λ ws. ChangesRow C t.reads ws (keys.Idem c)) (sym is) (kept_changes c l);
+      doomed = λ id l. subst (λ ws. ChangesRow C t.reads ws (keys.Gc id)) (sym is) (doomed_changes id l);
+      update = update;
+      none_asked = made.none_asked;
+    }
 
 -- ---- sound entries keep rows well formed
 

@@ -7,7 +7,7 @@ use Rattle.fs_base.specs.declared.call.Request.{Request}
 use Rattle.fs_base.specs.declared.reply.Reply.{Reply}
 use Rattle.row_tree.specs.TreeOf.{tree_of}
 use Rattle.tree_model.specs.declared.walk.Walked.{Walked}
-use Rattle.tree_model.specs.Effects.{Effect}
+use Rattle.tree_model.specs.Effects.{Effect, at_length, settled_by}
 use Rattle.tree_model.specs.Tree.{Tree}
 use Rattle.txn_task.specs.Transactions.{Transaction, noted}
 use Rattle.txn_task.specs.declared.messages.Answer.{Answer}
@@ -57,7 +57,7 @@ pub step_as : (C : Settings) (fewer areas : Tree → List Area) (f g : Tree → 
 step_as C fewer areas f g t (steps.Ask ask) less same step = (step.0, λ S good agrees. reaches_more (fewer (tree_of S)) (areas (tree_of S)) ask (less S good agrees) (step.1 S good agrees))
 step_as C fewer areas f g t (steps.Reply reply) less same told = λ S good agrees. same S good agrees ∙ told S good agrees
 step_as C fewer areas f g t (steps.Commit reply asked) less same made = record {
-  sound = λ S good agrees. let done = made.sound S good agrees in (done.0, done.1, done.2, same S good agrees ∙ done.3);
+  sound = λ S good agrees. let done = made.sound S good agrees in (done.0, done.1, done.2, ap (at_length (settled_by reply)) (same S good agrees) ∙ done.3);
   writes = made.writes;
   kept = made.kept;
   reply_fits = made.reply_fits;

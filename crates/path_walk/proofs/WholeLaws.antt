@@ -22,32 +22,14 @@ use Rattle.row_tree.proofs.Changing.{tree_with_kept, keeps_reply}
 use Rattle.row_tree.proofs.Telling.{kept_is}
 use Rattle.tree_model.specs.declared.kept.KeptReply.{KeptReply}
 use Rattle.tree_model.specs.Calls.{effect, apply, is_query, settle, after_kept}
-use Rattle.tree_model.specs.Effects.{Effect}
+use Rattle.tree_model.specs.Effects.{Effect, at_length, settled_by}
 use Rattle.tree_model.specs.Tree.{Tree}
+use Rattle.tree_model.proofs.ApplyLaws.{apply_query, apply_update, update_new, settle_at}
 use Rattle.txn_task.specs.Agreeing.{Agrees, LeadsTo}
 use Rattle.txn_task.specs.Writes.{set_write}
 use Rattle.txn_task.proofs.TxnLaws.{leads_put}
 use Rattle.path_walk.specs.Owed.{IsJustified, IsSoundEffect, KeepsEffect, IsKeptBefore}
 use Rattle.path_walk.specs.Sound.{IsJustifiedReply, kept_value}
-
--- ---- a request, by what kind it is
-
-apply_query : (C : Settings) (T : Tree) (q : Request) → is_query q.call ≡ true → apply C T q ≡ settle T q (effect C T q)
-unfolding apply
-apply_query C T q query = ap (λ b. cond b (settle T q (effect C T q)) (after_kept C T q (get T.kept q.client.0))) query
-
-apply_update : (C : Settings) (T : Tree) (q : Request) → is_query q.call ≡ false → apply C T q ≡ after_kept C T q (get T.kept q.client.0)
-unfolding apply
-apply_update C T q update = ap (λ b. cond b (settle T q (effect C T q)) (after_kept C T q (get T.kept q.client.0))) update
-
--- an update with a new number has its effect
-fresh : (C : Settings) (T : Tree) (q : Request) (o : Option KeptReply) → MatchOption o ⊤ (λ kept. kept.number < q.number) → after_kept C T q o ≡ settle T q (effect C T q)
-fresh C T q None h = refl
-fresh C T q (Some kept) h =
-    let other : (kept.number == q.number) ≡ false = ne_eqb kept.number q.number (λ e. omega arith) in
-    let later : nat_lt q.number kept.number ≡ false = le-ltb q.number kept.number (omega arith) in
-    ap (λ b. cond b (T, kept.reply) (cond (nat_lt q.number kept.number) (T, Refused (Stale kept.number)) (settle T q (effect C T q)))) other
-    ∙ ap (λ b. cond b (T, Refused (Stale kept.number)) (settle T q (effect C T q))) later
 
 -- ---- kept replies in typed rows
 
@@ -59,8 +41,8 @@ pub kept_in : (S : TypedRows) (q : Request) → MatchOption (get S.kept q.client
 kept_in S q before = subst (λ (o : Option KeptReply). MatchOption o ⊤ (λ kept. kept.number < q.number)) (sym (kept_is S q.client.0 (get S.kept q.client.0) refl)) (tree_before (get S.kept q.client.0) q.number before)
 
 -- in typed rows that agree, the update is what its effect settles
-pub update_settles : (C : Settings) (S : TypedRows) (q : Request) → is_query q.call ≡ false → MatchOption (get S.kept q.client.0) ⊤ (λ kept. kept.number < q.number) → apply C (tree_of S) q ≡ settle (tree_of S) q (effect C (tree_of S) q)
-update_settles C S q update before = apply_update C (tree_of S) q update ∙ fresh C (tree_of S) q (get (tree_of S).kept q.client.0) (kept_in S q before)
+pub update_settles : (C : Settings) (S : TypedRows) (q : Request) (settled : ℕ) → is_query q.call ≡ false → MatchOption (get S.kept q.client.0) ⊤ (λ kept. kept.number < q.number) → apply C (tree_of S) q settled ≡ settle (tree_of S) q settled (effect C (tree_of S) q)
+update_settles C S q settled update before = apply_update C (tree_of S) q settled update ∙ update_new C (tree_of S) q settled (get (tree_of S).kept q.client.0) (kept_in S q before)
 
 -- no kept reply, or an earlier one
 pub before_none : (reads : ReadSet) (q : Request) → ((S : TypedRows) → Agrees S reads → get S.kept q.client.0 ≡ None) → IsKeptBefore reads q
@@ -71,52 +53,54 @@ before_earlier reads q row is less S agrees = subst (λ (o : Option KeptRow). Ma
 
 -- ---- from typed rows to bytes
 
-told : (C : Settings) (q : Request) (reads : ReadSet) (reply : Reply) → ((S : TypedRows) → IsWellFormed C S → Agrees S reads → apply C (tree_of S) q ≡ (tree_of S, reply)) → IsJustifiedReply C q reads reply
-told C q reads reply is rows T asc tree agrees =
-    subst (λ (t : Tree). apply C t q ≡ (t, reply)) tree.3 (is tree.0 tree.2 (record { rows = rows; ascending = asc; spells = tree.1; agrees = agrees }))
+told : (C : Settings) (q : Request) (reads : ReadSet) (reply : Reply) → ((S : TypedRows) → IsWellFormed C S → Agrees S reads → (settled : ℕ) → apply C (tree_of S) q settled ≡ (tree_of S, reply)) → IsJustifiedReply C q reads reply
+told C q reads reply is rows T asc tree agrees settled =
+    subst (λ (t : Tree). apply C t q settled ≡ (t, reply)) tree.3 (is tree.0 tree.2 (record { rows = rows; ascending = asc; spells = tree.1; agrees = agrees }) settled)
 
 module _ (C : Settings) (q : Request) (f : Tree → Effect) (reads : ReadSet) (reply : Reply) (same : KeepsEffect C (λ T. effect C T q) f reads) (justified : IsJustified C f reads reply) where
-  effect_leaves : (S : TypedRows) → IsWellFormed C S → Agrees S reads → settle (tree_of S) q (effect C (tree_of S) q) ≡ (tree_of S, reply)
-  effect_leaves S good agrees = ap (settle (tree_of S) q) (sym (same S good agrees) ∙ justified S good agrees)
+  effect_leaves : (S : TypedRows) → IsWellFormed C S → Agrees S reads → (settled : ℕ) → settle (tree_of S) q settled (effect C (tree_of S) q) ≡ (tree_of S, reply)
+  effect_leaves S good agrees settled = ap (settle (tree_of S) q settled) (sym (same S good agrees) ∙ justified S good agrees)
 
   pub told_query : is_query q.call ≡ true → IsJustifiedReply C q reads reply
-  told_query query = told C q reads reply (λ S good agrees. apply_query C (tree_of S) q query ∙ effect_leaves S good agrees)
+  told_query query = told C q reads reply (λ S good agrees settled. apply_query C (tree_of S) q settled query ∙ effect_leaves S good agrees settled)
 
   pub told_update : is_query q.call ≡ false → IsKeptBefore reads q → IsJustifiedReply C q reads reply
-  told_update update before = told C q reads reply (λ S good agrees. update_settles C S q update (before S agrees) ∙ effect_leaves S good agrees)
+  told_update update before = told C q reads reply (λ S good agrees settled. update_settles C S q settled update (before S agrees) ∙ effect_leaves S good agrees settled)
 
 -- ---- a number that isn't new
 
 module _ (C : Settings) (q : Request) (reads : ReadSet) (row : KeptRow) (update : is_query q.call ≡ false) (is : (S : TypedRows) → Agrees S reads → get S.kept q.client.0 ≡ Some row) where
-  kept_before : (S : TypedRows) → Agrees S reads → apply C (tree_of S) q ≡ after_kept C (tree_of S) q (Some (kept_of row))
-  kept_before S agrees = apply_update C (tree_of S) q update ∙ ap (after_kept C (tree_of S) q) (kept_is S q.client.0 (Some row) (is S agrees))
+  kept_before : (S : TypedRows) → Agrees S reads → (settled : ℕ) → apply C (tree_of S) q settled ≡ after_kept C (tree_of S) q settled (Some (kept_of row))
+  kept_before S agrees settled = apply_update C (tree_of S) q settled update ∙ ap (after_kept C (tree_of S) q settled) (kept_is S q.client.0 (Some row) (is S agrees))
 
-  abbrev else_stale : TypedRows → Tree × Reply
-  else_stale S = cond (nat_lt q.number row.number) (tree_of S, Refused (Stale row.number)) (settle (tree_of S) q (effect C (tree_of S) q))
+  abbrev else_stale : TypedRows → ℕ → Tree × Reply
+  else_stale S settled = cond (nat_lt q.number row.number) (tree_of S, Refused (Stale row.number)) (settle (tree_of S) q settled (effect C (tree_of S) q))
 
   pub kept_again : row.number ≡ q.number → IsJustifiedReply C q reads row.reply
-  kept_again again = told C q reads row.reply (λ S good agrees.
-      kept_before S agrees ∙ ap (λ b. cond b (tree_of S, row.reply) (else_stale S)) (eq-eqb row.number q.number again))
+  kept_again again = told C q reads row.reply (λ S good agrees settled.
+      kept_before S agrees settled ∙ ap (λ b. cond b (tree_of S, row.reply) (else_stale S settled)) (eq-eqb row.number q.number again))
 
   pub kept_later : q.number < row.number → IsJustifiedReply C q reads (Refused (Stale row.number))
-  kept_later later = told C q reads (Refused (Stale row.number)) (λ S good agrees.
-      kept_before S agrees
-      ∙ (ap (λ b. cond b (tree_of S, row.reply) (else_stale S)) (ne_eqb row.number q.number (λ e. omega arith))
-      ∙ ap (λ b. cond b (tree_of S, Refused (Stale row.number)) (settle (tree_of S) q (effect C (tree_of S) q))) (lt-ltb q.number row.number later)))
+  kept_later later = told C q reads (Refused (Stale row.number)) (λ S good agrees settled.
+      kept_before S agrees settled
+      ∙ (ap (λ b. cond b (tree_of S, row.reply) (else_stale S settled)) (ne_eqb row.number q.number (λ e. omega arith))
+      ∙ ap (λ b. cond b (tree_of S, Refused (Stale row.number)) (settle (tree_of S) q settled (effect C (tree_of S) q))) (lt-ltb q.number row.number later)))
 
 -- ---- what is committed with the kept reply is the whole call
 
 pub whole_update : (C : Settings) (q : Request) (f : Tree → Effect) (reads : ReadSet) (writes : List Write) (reply : Reply) → is_query q.call ≡ false → KeepsEffect C (λ T. effect C T q) f reads
     → IsSoundEffect C f reads writes reply → IsKeptBefore reads q → q.client.0 < 2 ^ 128 → IsValue (kept_value q reply)
     → (S : TypedRows) → IsWellFormed C S → Agrees S reads
-    → (U : TypedRows) × LeadsTo (set_write (spelled_key (keys.Idem q.client)) (Some (spelled_value (kept_value q reply))) writes) S U × IsWellFormed C U × (apply C (tree_of S) q ≡ (tree_of U, reply))
+    → (U : TypedRows) × LeadsTo (set_write (spelled_key (keys.Idem q.client)) (Some (spelled_value (kept_value q reply))) writes) S U × IsWellFormed C U × (apply C (tree_of S) q (settled_by reply) ≡ (tree_of U, reply))
 whole_update C q f reads writes reply update same sound before client range S good agrees =
     let row : KeptRow = record { number = q.number; reply = reply } in
+    let length : ℕ = settled_by reply in
     let made = sound S good agrees in (
       with_kept made.0 q.client.0 row,
       leads_put writes S made.0 (keys.Idem q.client) (Some (kept_value q reply)) made.1 client (refl, range),
       keeps_reply C made.0 made.2 q.client.0 row,
-      update_settles C S q update (before S agrees)
-          ∙ (ap (settle (tree_of S) q) (sym (same S good agrees) ∙ made.3)
-          ∙ ap (λ (t : Tree). (t, reply)) (sym (tree_with_kept made.0 q.client.0 row))),
+      update_settles C S q length update (before S agrees)
+          ∙ (settle_at (tree_of S) q length (effect C (tree_of S) q)
+          ∙ (ap (settle (tree_of S) q length) (ap (at_length length) (sym (same S good agrees)) ∙ made.3)
+          ∙ ap (λ (t : Tree). (t, reply)) (sym (tree_with_kept made.0 q.client.0 row)))),
     )

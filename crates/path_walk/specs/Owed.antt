@@ -17,7 +17,7 @@ use Rattle.row_tree.specs.TreeOf.{tree_of}
 use Rattle.row_tree.specs.TypedRows.{TypedRows, lookup}
 use Rattle.row_tree.specs.Values.{Value, spelled_value}
 use Rattle.row_tree.specs.WellFormed.{IsWellFormed}
-use Rattle.tree_model.specs.Effects.{Effect, Leaves, Makes}
+use Rattle.tree_model.specs.Effects.{Effect, Leaves, Makes, at_length, settled_by}
 use Rattle.tree_model.specs.Tree.{Tree}
 use Rattle.txn_task.specs.Agreeing.{Agrees, AreWrites, LeadsTo}
 use Rattle.txn_task.specs.Listing.{StartsNext}
@@ -43,10 +43,10 @@ IsKeptBefore reads q = (S : TypedRows) → Agrees S reads → MatchOption (get S
 
 -- ---- a commit, before the kept reply is added
 
--- the writes lead all of them to well-formed rows, whose tree the effect makes with the reply
+-- the writes lead all of them to well-formed rows, whose tree the effect makes with the reply; a settling does at the reply's length
 abbrev pub IsSoundEffect : Settings → (Tree → Effect) → ReadSet → List Write → Reply → Type 0
 IsSoundEffect C effect reads writes reply =
-    (S : TypedRows) → IsWellFormed C S → Agrees S reads → (U : TypedRows) × LeadsTo writes S U × IsWellFormed C U × (effect (tree_of S) ≡ Makes (tree_of U) reply)
+    (S : TypedRows) → IsWellFormed C S → Agrees S reads → (U : TypedRows) × LeadsTo writes S U × IsWellFormed C U × (at_length (settled_by reply) (effect (tree_of S)) ≡ Makes (tree_of U) reply)
 
 -- no kept reply is written, and what is written at a file in deletion is another value than stands there
 pub record LeavesKept (C : Settings) (reads : ReadSet) (writes : List Write) : Type 0 where

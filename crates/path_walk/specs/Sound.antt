@@ -3,7 +3,6 @@ use Rattle.std.specs.Prelude.{◌≡◌, ◌≢◌, ◌<◌, ◌^◌, ℕ, false
 use Rattle.std.specs.FinMap.{get}
 use Rattle.conflict_sets.specs.Reads as bytes
 use Rattle.conflict_sets.specs.Rows.{IsAscending, value_at_key, with_writes}
-use Rattle.conflict_sets.specs.Writes.{AreAscending}
 use Rattle.conflict_sets.specs.declared.sets.ReadSet.{ReadSet}
 use Rattle.conflict_sets.specs.declared.sets.Write.{Write}
 use Rattle.fs_base.specs.Config.{Settings}
@@ -17,15 +16,15 @@ use Rattle.key_schema.specs.declared.key.Key.TheVariants as keys
 use Rattle.row_tree.specs.HasTree.{HasTree}
 use Rattle.row_tree.specs.Values.{Value, KeptValue, spelled_value}
 use Rattle.tree_model.specs.Calls.{apply, effect, is_query}
-use Rattle.tree_model.specs.Effects.{Makes}
+use Rattle.tree_model.specs.Effects.{Makes, at_length, settled_by}
 use Rattle.tree_model.specs.Tree.{Tree}
 use Rattle.txn_task.specs.Agreeing.{HaveValidKeys}
 use Rattle.txn_task.specs.Writes.{written_at}
 use Rattle.txn_task.specs.declared.messages.Entry.{Entry}
 
--- in all rows with a tree that agree with the reads, the call leaves the tree and gives the reply
+-- in all rows with a tree that agree with the reads, the call leaves the tree and gives the reply, whatever length is settled
 abbrev pub IsJustifiedReply : Settings → Request → ReadSet → Reply → Type 0
-IsJustifiedReply C q reads reply = (rows : List Row) (T : Tree) → IsAscending rows → HasTree C rows T → bytes.Agrees rows reads → apply C T q ≡ (T, reply)
+IsJustifiedReply C q reads reply = (rows : List Row) (T : Tree) → IsAscending rows → HasTree C rows T → bytes.Agrees rows reads → (settled : ℕ) → apply C T q settled ≡ (T, reply)
 
 abbrev pub kept_value : Request → Reply → Value
 kept_value q reply = KeptValue (record { number = q.number; reply = reply })
@@ -37,11 +36,10 @@ ChangesRow C reads writes key =
 
 pub record IsSoundEntry (C : Settings) (e : Entry) : Type 0 where
   pub acts : (rows : List Row) (T : Tree) → IsAscending rows → HasTree C rows T → bytes.Agrees rows e.reads
-      → (U : Tree) × HasTree C (with_writes rows e.writes.writes) U × (apply C T e.request ≡ (U, e.reply))
+      → (U : Tree) × HasTree C (with_writes rows e.writes.writes) U × (apply C T e.request (settled_by e.reply) ≡ (U, e.reply))
   -- it is no refusal, and no query
-  pub makes : (rows : List Row) (T : Tree) → IsAscending rows → HasTree C rows T → bytes.Agrees rows e.reads → (V : Tree) × (effect C T e.request ≡ Makes V e.reply)
+  pub makes : (rows : List Row) (T : Tree) → IsAscending rows → HasTree C rows T → bytes.Agrees rows e.reads → (V : Tree) × (at_length (settled_by e.reply) (effect C T e.request) ≡ Makes V e.reply)
   pub fresh : (rows : List Row) (T : Tree) → IsAscending rows → HasTree C rows T → bytes.Agrees rows e.reads → MatchOption (get T.kept e.request.client.0) ⊤ (λ kept. kept.number < e.request.number)
-  pub ascending : AreAscending e.writes.writes
   pub valid : HaveValidKeys e.writes.writes
   pub keeps : written_at e.writes.writes (spelled_key (keys.Idem e.request.client)) ≡ Some (Some (spelled_value (kept_value e.request e.reply)))
   pub kept : (client : ClientId) → client.0 < 2 ^ 128 → ChangesRow C e.reads e.writes.writes (keys.Idem client)

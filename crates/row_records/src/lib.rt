@@ -17,6 +17,3 @@ pub use laws::{calls_are_spelled, replies_are_spelled, rows_are_spelled};
 pub use reply_reading::reply_read;
 pub use reply_writing::reply_write;
 pub use rows::{AllocRow, DentRow, GcRow, KeptRow, SessionRow};
-
-#[cfg(test)]
-mod tests;

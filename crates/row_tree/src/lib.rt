@@ -14,6 +14,3 @@ mod typed;
 pub use new_store::opening_rows;
 pub use tree::{TreeError, read_tree};
 pub use typed::TypedRows;
-
-#[cfg(test)]
-mod tests;

@@ -1,43 +1,13 @@
--- The journal as a history of the plain tree, and the rows behind it.
-use Rattle.std.specs.Prelude.{◌≡◌, ℕ, List, [], ◌∷◌, Some, slice_get, take}
+-- The rows behind the journal, which is a history of the plain tree.
+use Rattle.std.specs.Prelude.{ℕ, List}
 use Rattle.conflict_sets.specs.declared.sets.ReadSet.{ReadSet}
 use Rattle.conflict_sets.specs.declared.sets.WriteSet.{WriteSet}
 use Rattle.fs_base.specs.Config.{Settings}
 use Rattle.fs_base.specs.declared.row.Row.{Row}
 use Rattle.kv_store.specs.Journal.{rows_at}
 use Rattle.row_tree.specs.Opening.{opening_bytes}
-use Rattle.tree_model.specs.Calls.{apply}
-use Rattle.tree_model.specs.Tree.{Tree, new_tree}
 use Rattle.txn_task.specs.declared.messages.Entry.{Entry}
-
--- the entry of the version that is one more
-abbrev pub EntryAt : List Entry → ℕ → Entry → Type 0
-EntryAt journal place entry = slice_get journal place ≡ Some entry
-
--- ---- the plain tree
-
--- the tree after these entries' calls
-abbrev pub tree_after : Settings → Tree → List Entry → Tree
-tree_after C T [] = T
-tree_after C T (entry ∷ entries) = tree_after C (apply C T entry.request).0 entries
-
-abbrev pub tree_at : Settings → List Entry → ℕ → Tree
-tree_at C journal n = tree_after C (new_tree C) (take n journal)
-
--- each reply is the tree's at its place
-abbrev pub AreReplies : Settings → Tree → List Entry → Type 0
-AreReplies C T [] = Unit {0}
-AreReplies C T (entry ∷ entries) = ((apply C T entry.request).1 ≡ entry.reply) × AreReplies C (apply C T entry.request).0 entries
-
--- no client's number stands twice
-abbrev pub IsOnce : List Entry → Type 0
-IsOnce journal = (i j : ℕ) (a b : Entry) → EntryAt journal i a → EntryAt journal j b → a.request.client ≡ b.request.client → a.request.number ≡ b.request.number → i ≡ j
-
-pub record IsLegal (C : Settings) (journal : List Entry) : Type 0 where
-  pub replies : AreReplies C (new_tree C) journal
-  pub once : IsOnce journal
-
--- ---- the rows
+pub use Rattle.histories.specs.Journal.{EntryAt, applied, tree_after, tree_at, AreReplies, IsOnce, IsLegal}
 
 abbrev pub reads_of : Entry → ReadSet
 reads_of entry = entry.reads

@@ -77,9 +77,9 @@ pub record NamesEntry (journal : List Entry) (request : Request) (front : ℕ) (
   pub reply : entry.reply ≡ receipt.reply
   pub above : front ≤ place
 
--- the plain tree at the receipt's version gives the reply, and stays
+-- the plain tree at the receipt's version gives the reply, and stays, whatever length is settled
 abbrev pub IsTold : Settings → List Entry → Request → Receipt → Type 0
-IsTold C journal request receipt = apply C (tree_at C journal receipt.version) request ≡ (tree_at C journal receipt.version, receipt.reply)
+IsTold C journal request receipt = (settled : ℕ) → apply C (tree_at C journal receipt.version) request settled ≡ (tree_at C journal receipt.version, receipt.reply)
 
 -- each attempt that is allowed met a conflict
 abbrev pub IsSpent : ℕ → Receipt → Type 0

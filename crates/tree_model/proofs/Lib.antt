@@ -1,3 +1,4 @@
+pub mod ApplyLaws
 pub mod MapLaws
 pub mod Undo
 pub mod WalkLaws

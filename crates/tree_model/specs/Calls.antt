@@ -1,5 +1,5 @@
 -- The table of calls, and kept replies around it.
-use Rattle.std.specs.Prelude.{◌==◌, nat_lt, Bool, true, false, if◌then◌else◌, Option, Some, None}
+use Rattle.std.specs.Prelude.{◌==◌, ℕ, nat_lt, Bool, true, false, if◌then◌else◌, Option, Some, None}
 use Rattle.std.specs.FinMap.{get, insert}
 use Rattle.fs_base.specs.Config.{Settings}
 use Rattle.fs_base.specs.declared.call.Call.{Call}
@@ -7,10 +7,10 @@ use Rattle.fs_base.specs.declared.call.Call.TheVariants as calls
 use Rattle.fs_base.specs.declared.call.Request.{Request}
 use Rattle.fs_base.specs.declared.code.Code.TheVariants as codes
 use Rattle.fs_base.specs.declared.reply.Reply.{Reply}
-use Rattle.fs_base.specs.declared.reply.Reply.TheVariants.{Done, Refused}
+use Rattle.fs_base.specs.declared.reply.Reply.TheVariants.{Done, Refused, Settled}
 use Rattle.tree_model.specs.declared.kept.KeptReply.{KeptReply}
 use Rattle.tree_model.specs.Creating.{make, symlink, new_dir, new_file}
-use Rattle.tree_model.specs.Effects.{Effect, Leaves, Makes}
+use Rattle.tree_model.specs.Effects.{Effect, Leaves, Makes, Settles}
 use Rattle.tree_model.specs.Finding.{lookup, stat, list, readlink, setattr}
 use Rattle.tree_model.specs.Tree.{Tree}
 
@@ -37,6 +37,12 @@ is_query (calls.Fstat session) = true
 is_query calls.Doomed = true
 is_query _ = false
 
+-- a settling takes the file's length from the storage nodes
+abbrev pub settles : Call → Bool
+settles (calls.Fsync session) = true
+settles (calls.Close session) = true
+settles _ = false
+
 -- the last line speaks of no call that is built
 abbrev pub effect_of : Settings → Tree → Request → Call → Effect
 effect_of C T q (calls.Lookup place) = lookup T place
@@ -56,18 +62,20 @@ effect C T q = effect_of C T q q.call
 abbrev pub keeps : Tree → Request → Reply → Tree
 keeps T q reply = record T { kept = insert T.kept q.client.0 (record { number = q.number; reply = reply }) }
 
-abbrev pub settle : Tree → Request → Effect → Tree × Reply
-settle T q (Leaves reply) = (T, reply)
-settle T q (Makes new reply) = (keeps new q reply, reply)
+-- the length counts for a settling alone
+abbrev pub settle : Tree → Request → ℕ → Effect → Tree × Reply
+settle T q settled (Leaves reply) = (T, reply)
+settle T q settled (Makes new reply) = (keeps new q reply, reply)
+settle T q settled (Settles new) = (keeps (new settled) q (Settled settled), Settled settled)
 
 -- the same number gives the kept reply; an earlier one is stale
-abbrev pub after_kept : Settings → Tree → Request → Option KeptReply → Tree × Reply
-after_kept C T q None = settle T q (effect C T q)
-after_kept C T q (Some kept) =
+abbrev pub after_kept : Settings → Tree → Request → ℕ → Option KeptReply → Tree × Reply
+after_kept C T q settled None = settle T q settled (effect C T q)
+after_kept C T q settled (Some kept) =
     if kept.number == q.number
     then (T, kept.reply)
-    else (if nat_lt q.number kept.number then (T, Refused (codes.Stale kept.number)) else settle T q (effect C T q))
+    else (if nat_lt q.number kept.number then (T, Refused (codes.Stale kept.number)) else settle T q settled (effect C T q))
 
--- the tree and the reply after a request; an update looks at its client's kept reply first
-unfoldable pub apply : Settings → Tree → Request → Tree × Reply
-apply C T q = if is_query q.call then settle T q (effect C T q) else after_kept C T q (get T.kept q.client.0)
+-- the tree and the reply after a request, and a settled length; an update looks at its client's kept reply first
+unfoldable pub apply : Settings → Tree → Request → ℕ → Tree × Reply
+apply C T q settled = if is_query q.call then settle T q settled (effect C T q) else after_kept C T q settled (get T.kept q.client.0)

@@ -1,15 +1,27 @@
 -- What a call comes to: it leaves the tree, or makes another.
-use Rattle.std.specs.Prelude.{Result, Ok, Err}
+use Rattle.std.specs.Prelude.{ℕ, Result, Ok, Err}
 use Rattle.fs_base.specs.declared.code.Code.{Code}
 use Rattle.fs_base.specs.declared.path.Path.{Path}
 use Rattle.fs_base.specs.declared.reply.Reply.{Reply}
-use Rattle.fs_base.specs.declared.reply.Reply.TheVariants.{Refused}
+use Rattle.fs_base.specs.declared.reply.Reply.TheVariants.{Refused, Settled}
 use Rattle.tree_model.specs.Tree.{Tree}
 
--- a call either leaves the tree and replies, or makes a new tree with its reply
+-- a call leaves the tree and replies, or makes a new tree with its reply; a settling makes one of each length
 pub data Effect : Type 0 where
   Leaves : (reply : Reply) → Effect
   Makes : (tree : Tree) → (reply : Reply) → Effect
+  Settles : (tree : ℕ → Tree) → Effect
+
+-- the same at a settled length, which is a settling's reply
+abbrev pub at_length : ℕ → Effect → Effect
+at_length settled (Leaves reply) = Leaves reply
+at_length settled (Makes tree reply) = Makes tree reply
+at_length settled (Settles tree) = Makes (tree settled) (Settled settled)
+
+-- the length that a reply settles, 0 where it settles none
+abbrev pub settled_by : Reply → ℕ
+settled_by (Settled length) = length
+settled_by reply = 0
 
 abbrev pub refuses : Code → Effect
 refuses code = Leaves (Refused code)

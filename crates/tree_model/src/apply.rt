@@ -1,7 +1,8 @@
-ghost use Rattle.std.specs.Prelude.{◌≡◌, ◌<◌, Bool, false, true, IsTrue, IfOk, OnErr};
+ghost use Rattle.std.specs.Prelude.{◌≡◌, ◌<◌, ◌≤◌, Bool, false, true, unwrap_or, IsTrue, IfOk, IfSome, OnErr};
 ghost use Rattle.std.specs.FinMap.{get};
+ghost use Rattle.std.specs.Option.{is_some};
 ghost use Rattle.tree_model.specs.Effects.{Leaves};
-ghost use Rattle.tree_model.specs.Calls.{apply, after_kept, effect, is_built, is_query, settle};
+ghost use Rattle.tree_model.specs.Calls.{apply, after_kept, effect, is_built, is_query, settle, settles};
 ghost use Rattle.tree_model.specs.Making.{IsPlan};
 
 use crate::new_node::NewNode;
@@ -41,6 +42,13 @@ pub fn is_query(call: &Call) -> bool
             | Call::Fstat(_)
             | Call::Doomed
     )
+}
+
+/// Whether a call settles a file's length, which the storage nodes tell.
+pub fn settles(call: &Call) -> bool
+    ensures { result ≡ settles call.now }
+{
+    matches!(call, Call::Fsync(_) | Call::Close(_))
 }
 
 impl Tree {
@@ -84,11 +92,16 @@ impl Tree {
     }
 
     /// Does what an update is to do, and keeps its reply.
-    fn perform(&mut self, alloc: Global, request: &Request) -> Result<Reply, Memory>
+    fn perform(
+        &mut self,
+        alloc: Global,
+        request: &Request,
+        settled: Option<u64>,
+    ) -> Result<Reply, Memory>
         requires server { request.now.server < 16 }
         requires built { IsTrue (is_built request.now.call) }
         requires update { is_query request.now.call ≡ false }
-        ensures ok { IfOk result (λ reply. settle self.old.tree request.now (effect self.old.config self.old.tree request.now) ≡ (self.new.tree, reply)) }
+        ensures ok { IfOk result (λ reply. settle self.old.tree request.now (unwrap_or settled 0) (effect self.old.config self.old.tree request.now) ≡ (self.new.tree, reply)) }
         ensures config { self.new.config ≡ self.old.config }
         ensures err { OnErr result (self.new ≡ self.old) }
     {
@@ -100,33 +113,47 @@ impl Tree {
     }
 
     /// An update looks at its client's kept reply first.
-    fn update(&mut self, alloc: Global, request: &Request) -> Result<Reply, Memory>
+    fn update(
+        &mut self,
+        alloc: Global,
+        request: &Request,
+        settled: Option<u64>,
+    ) -> Result<Reply, Memory>
         requires server { request.now.server < 16 }
         requires built { IsTrue (is_built request.now.call) }
         requires update { is_query request.now.call ≡ false }
-        ensures ok { IfOk result (λ reply. after_kept self.old.config self.old.tree request.now (get self.old.tree.kept request.now.client.0) ≡ (self.new.tree, reply)) }
+        ensures ok { IfOk result (λ reply. after_kept self.old.config self.old.tree request.now (unwrap_or settled 0) (get self.old.tree.kept request.now.client.0) ≡ (self.new.tree, reply)) }
         ensures config { self.new.config ≡ self.old.config }
         ensures err { OnErr result (self.new ≡ self.old) }
     {
         match self.earlier_reply(alloc, request)? {
             Some(reply) => Ok(reply),
-            None => self.perform(alloc, request),
+            None => self.perform(alloc, request, settled),
         }
     }
 
     /// What a request does to the tree, and its reply. A refusal or a query leaves the tree as it was.
+    ///
+    /// A call that settles a file's length is given it, in bytes, and no other call is.
     #[tactic(auto, unfolding(crate::specs::Calls::apply))]
-    pub fn apply(&mut self, alloc: Global, request: &Request) -> Result<Reply, Memory>
+    pub fn apply(
+        &mut self,
+        alloc: Global,
+        request: &Request,
+        settled: Option<u64>,
+    ) -> Result<Reply, Memory>
         requires server { request.now.server < 16 }
         requires built { IsTrue (is_built request.now.call) }
-        ensures ok { IfOk result (λ reply. apply self.old.config self.old.tree request.now ≡ (self.new.tree, reply)) }
+        requires given { is_some settled ≡ settles request.now.call }
+        requires bounded { IfSome settled (λ length. length ≤ 1099511627776) }
+        ensures ok { IfOk result (λ reply. apply self.old.config self.old.tree request.now (unwrap_or settled 0) ≡ (self.new.tree, reply)) }
         ensures config { self.new.config ≡ self.old.config }
         ensures err { OnErr result (self.new ≡ self.old) }
     {
         if is_query(&request.call) {
             self.answer(alloc, request)
         } else {
-            self.update(alloc, request)
+            self.update(alloc, request, settled)
         }
     }
 }

@@ -13,13 +13,11 @@ mod new_node;
 mod node;
 mod plan;
 mod setattr;
-#[cfg(test)]
-mod tests;
 mod tree;
 mod walk;
 mod walking;
 
-pub use apply::{is_built, is_query};
+pub use apply::{is_built, is_query, settles};
 pub use kept::{Doom, KeptReply};
 pub use make::is_layout;
 pub use maps::{ByClient, ByName, ByNumber, BySession};

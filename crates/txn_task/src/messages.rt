@@ -1,3 +1,4 @@
+use chunk_node::NodeError;
 use conflict_sets::{Got, ReadSet, WriteSet};
 use fs_base::{InodeId, Items, Reply, Request, Row, Text};
 use key_schema::Key;
@@ -83,6 +84,8 @@ pub enum Answer {
     Ended(Asked),
     /// To `SetEnd` and `Remove`: how much the node has done, with this.
     Did(u64),
+    /// To `Query`, `SetEnd` and `Remove`: the node did nothing.
+    NodeRefused(NodeError),
 }
 
 /// What an operation's task comes to in one step.

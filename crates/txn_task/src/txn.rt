@@ -1,6 +1,5 @@
 ghost use Rattle.std.specs.Prelude.{◌≡◌, ◌∷◌, ◌++◌, [], None, Some, OnOk, OnErr, IfOk};
 ghost use Rattle.std.specs.Option.{option_map};
-ghost use Rattle.conflict_sets.specs.Writes.{AreAscending};
 ghost use Rattle.key_schema.specs.Keys.{spelled_key, IsValidKey};
 ghost use Rattle.txn_task.specs.Agreeing.{AreWrites};
 ghost use Rattle.txn_task.specs.Transactions.{started, noted, with_key, with_range, IsNews};
@@ -34,6 +33,10 @@ impl Model for Txn {
     ghost coded = { Prim.hlevel (codes, read_set.the_row.coded, write.the_row.coded) };
 
     ghost view = { λ t. record { snapshot = t.snapshot; reads = t.reads; writes = t.writes.items } };
+
+    ghost use Rattle.conflict_sets.specs.Writes.{AreAscending};
+
+    ghost invariant = { λ t. AreAscending t.writes.items };
 }
 
 fn no_reads(alloc: Global) -> ReadSet
@@ -213,7 +216,6 @@ impl Txn {
     pub fn put(&mut self, alloc: Global, key: &Key, value: Option<Vec<u8>>) -> Result<(), Memory>
         ensures ok { OnOk result (self.new ≡ record self.old { writes = set_write (spelled_key key.now) (option_map (λ v. v.items) value) self.old.writes }) }
         ensures err { OnErr result (self.new ≡ self.old) }
-        ensures ascending { AreAscending self.old.writes → AreAscending self.new.writes }
         ensures valid { IsValidKey key.now → AreWrites self.old.writes → AreWrites self.new.writes }
     {
         let key = Text::from_vec(key.write(alloc)?);
@@ -243,7 +245,7 @@ impl Txn {
 
     /// What was read, and what is to be written.
     pub fn into_sets(self) -> (ReadSet, WriteSet)
-        ensures { result ≡ (self.reads, record { writes = self.writes }) }
+        ensures { (result.0 ≡ self.reads) × (result.1.writes ≡ self.writes) }
     {
         let writes = WriteSet {
             writes: Items::from_vec(self.writes),

@@ -68,7 +68,7 @@ pub conflict_keyed : (C : Settings) (journal : List Entry) (snapshot : ℕ) (rea
 conflict_keyed C journal snapshot reads version key sound is =
     let found : IsFirst writes_of journal snapshot reads (Some (version, key)) =
     subst (λ (o : Option (ℕ × List ℕ)). IsFirst writes_of journal snapshot reads o) is
-    (first_later_first reads_of writes_of (IsSoundEntry C) (λ e s. s.ascending) (opening_bytes C) journal sound.run snapshot reads) in
+    (first_later_first writes_of journal snapshot reads) in
     written_is_valid found.entry.writes.writes key (sound_at C (opening_bytes C) journal found.place found.entry sound.run found.there).valid found.least.written
 
 pub cause_keyed : (C : Settings) (journal : List Entry) (snapshot : ℕ) (reads : ReadSet) (front : ℕ) (why : CommitError) → IsSoundJournal C journal → HasCause (first_later writes_of journal snapshot reads) front why → IsKeyed why

@@ -61,7 +61,7 @@ pub conflict_named : (C : Settings) (journal : List Entry) (floor : ℕ) (task :
 conflict_named C journal floor task version key s fits b spellable later =
     let first : IsFirstLater writes_of journal task.snapshot task.reads version (spelled_key key)
     = subst (λ (o : Option (ℕ × List ℕ)). IsFirst writes_of journal task.snapshot task.reads o) later
-    (first_later_first reads_of writes_of (IsSoundEntry C) (λ e sound. sound.ascending) (opening_bytes C) journal s.run task.snapshot task.reads) in
+    (first_later_first writes_of journal task.snapshot task.reads) in
     let behind : task.snapshot ≤ first.place = first.later in
     record {
       snapshot = task.snapshot;

@@ -136,14 +136,14 @@ module _ (C : Settings) (attempts : ℕ) (journal : List Entry) (k : ℕ) (scrip
     ended_told outcome begun conflicts h =
         let b : IsBegun C journal task.request.client (last_version front task.conflicts) task = u.task_is.begun begun in
         let T : Tree = tree_at C journal task.snapshot in
-        let told : apply C T task.request ≡ (T, outcome.reply)
-        = subst (λ (c : Settings). apply c T task.request ≡ (T, outcome.reply)) u.task_is.config
+        let told : (settled : ℕ) → apply C T task.request settled ≡ (T, outcome.reply)
+        = subst (λ (c : Settings). (settled : ℕ) → apply c T task.request settled ≡ (T, outcome.reply)) u.task_is.config
         (h.told (journal_rows C journal task.snapshot) T (rows_ascending C journal s task.snapshot) (subst (λ (c : Settings). HasTree c (journal_rows C journal task.snapshot) T) (sym u.task_is.config) (rows_tree C journal s task.snapshot)) b.agrees) in
         let within : task.snapshot ≤ length journal = b.within in
         let up : front ≤ task.snapshot = front_below b in
         let v : outcome.version ≡ task.snapshot = h.version in
         ended_seen C attempts journal k script op receipts front u.step task.request u.request u.from outcome (conflicts_are outcome conflicts) h.mark (omega arith) (omega arith)
-        (inl (subst (λ n. apply C (tree_at C journal n) task.request ≡ (tree_at C journal n, outcome.reply)) (sym v) told))
+        (inl (subst (λ n. (settled : ℕ) → apply C (tree_at C journal n) task.request settled ≡ (tree_at C journal n, outcome.reply)) (sym v) told))
         (no_entry_new C journal s attempts k script op receipts past front task.request number_is client_is client_small u.named task (last_version front task.conflicts) outcome.reply refl b h.new told)
         u.named
 

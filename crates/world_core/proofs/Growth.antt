@@ -109,7 +109,7 @@ module _ (C : Settings) (es : List Entry) (new : Entry) where
           above = h.above;
           within = omega (arith, length_push es new);
           told = elim h.told [
-            | inl told ↦ inl (subst (λ (T : Tree). apply C T request ≡ (T, receipt.reply)) (sym same) told)
+            | inl told ↦ inl (subst (λ (T : Tree). (settled : ℕ) → apply C T request settled ≡ (T, receipt.reply)) (sym same) told)
             | inr other ↦ elim other [
               | inl spent ↦ inr (inl spent)
               | inr full ↦ absurd (let l : length es ≡ 200000 = full.1 in omega arith)

@@ -33,14 +33,15 @@ use Rattle.row_tree.specs.Values.{KeptValue, spelled_value}
 use Rattle.row_tree.proofs.OneValue.{one_value_each}
 use Rattle.row_tree.proofs.SpellingLaws.{found_back, lookup-form, texts}
 use Rattle.row_tree.proofs.Telling.{kept_is}
-use Rattle.tree_model.specs.Calls.{apply, effect}
-use Rattle.tree_model.specs.Effects.{Makes}
+use Rattle.tree_model.specs.Calls.{effect}
+use Rattle.tree_model.specs.Effects.{Makes, at_length, settled_by}
 use Rattle.tree_model.specs.Tree.{Tree, new_tree}
 use Rattle.tree_model.specs.declared.kept.KeptReply.{KeptReply}
 use Rattle.tree_model.proofs.MapLaws.{decide}
 use Rattle.txn_task.specs.Writes.{written_at}
 use Rattle.txn_task.specs.declared.messages.Entry.{Entry}
-use Rattle.run_record.specs.Legal.{AreReplies, EntryAt, IsLegal, IsOnce, journal_rows, reads_of, tree_after, tree_at, writes_of}
+use Rattle.histories.proofs.Versions.{place_or_end, tree_next}
+use Rattle.run_record.specs.Legal.{AreReplies, applied, EntryAt, IsLegal, IsOnce, journal_rows, reads_of, tree_after, tree_at, writes_of}
 use Rattle.world_core.specs.Sound.{IsSoundJournal}
 use Rattle.world_core.proofs.Keeping.{IsNew, kept_as, kept_own, kept_other}
 
@@ -50,16 +51,16 @@ Run C rows es = IsRun reads_of writes_of (IsSoundEntry C) rows es
 -- ---- the rows are the tree's
 
 -- a sound entry leads the tree's rows to those of the tree after its call
-has_after : (C : Settings) (rows : List Row) (T : Tree) (e : Entry) → IsAscending rows → HasTree C rows T → IsSoundEntry C e → bytes.Agrees rows e.reads → HasTree C (with_writes rows e.writes.writes) (apply C T e.request).0
+has_after : (C : Settings) (rows : List Row) (T : Tree) (e : Entry) → IsAscending rows → HasTree C rows T → IsSoundEntry C e → bytes.Agrees rows e.reads → HasTree C (with_writes rows e.writes.writes) (applied C T e).0
 has_after C rows T e asc tree sound agrees =
-    let made : (U : Tree) × HasTree C (with_writes rows e.writes.writes) U × (apply C T e.request ≡ (U, e.reply)) = sound.acts rows T asc tree agrees in
+    let made : (U : Tree) × HasTree C (with_writes rows e.writes.writes) U × (applied C T e ≡ (U, e.reply)) = sound.acts rows T asc tree agrees in
     subst (HasTree C (with_writes rows e.writes.writes)) (sym (ap (λ (p : Tree × Reply). p.0) made.2)) made.1
 
 tree_along : (C : Settings) (rows : List Row) (T : Tree) (es : List Entry) (n : ℕ) → IsAscending rows → HasTree C rows T → Run C rows es → HasTree C (after_all writes_of rows (take n es)) (tree_after C T (take n es))
 tree_along C rows T es zero asc tree run = tree
 tree_along C rows T [] (suc n) asc tree run = tree
 tree_along C rows T (e ∷ es) (suc n) asc tree run =
-    tree_along C (with_writes rows e.writes.writes) (apply C T e.request).0 es n (IsAscending-with_writes rows e.writes.writes asc) (has_after C rows T e asc tree run.0 run.1) run.2
+    tree_along C (with_writes rows e.writes.writes) (applied C T e).0 es n (IsAscending-with_writes rows e.writes.writes asc) (has_after C rows T e asc tree run.0 run.1) run.2
 
 pub rows_tree : (C : Settings) (journal : List Entry) → IsSoundJournal C journal → (n : ℕ) → HasTree C (journal_rows C journal n) (tree_at C journal n)
 rows_tree C journal s n = tree_along C (opening_bytes C) (new_tree C) journal n s.ascending s.opening s.run
@@ -79,21 +80,6 @@ entry_sound C journal s place e at = run_at C (opening_bytes C) journal place e 
 
 -- ---- what is kept, from entry to entry
 
--- the tree one entry further
-tree_next : (C : Settings) (T : Tree) (es : List Entry) (n : ℕ) (e : Entry) → EntryAt es n e → tree_after C T (take (suc n) es) ≡ (apply C (tree_after C T (take n es)) e.request).0
-tree_next C T [] n e at = absurd (let k : None ≡ Some e = at in cc)
-tree_next C T (x ∷ es) zero e at =
-    let same : x ≡ e = (let k : Some x ≡ Some e = at in cc) in
-    ap (λ (y : Entry). (apply C T y.request).0) same
-tree_next C T (x ∷ es) (suc n) e at = tree_next C (apply C T x.request).0 es n e at
-
--- each place has an entry, or adds nothing
-place_or_end : (es : List Entry) (n : ℕ) → ((e : Entry) × EntryAt es n e) ⊎ (take (suc n) es ≡ take n es)
-place_or_end [] zero = inr refl
-place_or_end [] (suc n) = inr refl
-place_or_end (x ∷ es) zero = inl (x, refl)
-place_or_end (x ∷ es) (suc n) = elim (place_or_end es n) [ inl here ↦ inl here | inr over ↦ inr (ap (λ (xs : List Entry). x ∷ xs) over) ]
-
 -- what is kept of the client has at least this number
 abbrev KeptAbove : Settings → List Entry → ℕ → ℕ → ℕ → Type 0
 KeptAbove C journal client number n = (k : KeptReply) × (get (tree_at C journal n).kept client ≡ Some k) × (number ≤ k.number)
@@ -108,7 +94,7 @@ module _ (C : Settings) (journal : List Entry) (s : IsSoundJournal C journal) wh
       let sound = entry_sound C journal s place e at in
       sound.0.fresh (journal_rows C journal place) (tree_at C journal place) (rows_ascend place) (rows_tree C journal s place) sound.1
 
-  made_at : (place : ℕ) (e : Entry) → EntryAt journal place e → (V : Tree) × (effect C (tree_at C journal place) e.request ≡ Makes V e.reply)
+  made_at : (place : ℕ) (e : Entry) → EntryAt journal place e → (V : Tree) × (at_length (settled_by e.reply) (effect C (tree_at C journal place) e.request) ≡ Makes V e.reply)
   made_at place e at =
       let sound = entry_sound C journal s place e at in
       sound.0.makes (journal_rows C journal place) (tree_at C journal place) (rows_ascend place) (rows_tree C journal s place) sound.1
@@ -179,9 +165,9 @@ module _ (C : Settings) (journal : List Entry) (s : IsSoundJournal C journal) wh
 replies_along : (C : Settings) (rows : List Row) (T : Tree) (es : List Entry) → IsAscending rows → HasTree C rows T → Run C rows es → AreReplies C T es
 replies_along C rows T [] asc tree run = tt
 replies_along C rows T (e ∷ es) asc tree run =
-    let made : (U : Tree) × HasTree C (with_writes rows e.writes.writes) U × (apply C T e.request ≡ (U, e.reply)) = run.0.acts rows T asc tree run.1 in (
+    let made : (U : Tree) × HasTree C (with_writes rows e.writes.writes) U × (applied C T e ≡ (U, e.reply)) = run.0.acts rows T asc tree run.1 in (
       ap (λ (p : Tree × Reply). p.1) made.2,
-      replies_along C (with_writes rows e.writes.writes) (apply C T e.request).0 es (IsAscending-with_writes rows e.writes.writes asc) (has_after C rows T e asc tree run.0 run.1) run.2,
+      replies_along C (with_writes rows e.writes.writes) (applied C T e).0 es (IsAscending-with_writes rows e.writes.writes asc) (has_after C rows T e asc tree run.0 run.1) run.2,
     )
 
 pub legal : (C : Settings) (journal : List Entry) → IsSoundJournal C journal → IsLegal C journal
@@ -276,7 +262,7 @@ module _ (C : Settings) (journal : List Entry) (s : IsSoundJournal C journal) (c
 
   -- an entry of another client writes no kept reply of this one: it would change the row, and the tree's stays
   none_written : (place : ℕ) (e : Entry) → EntryAt journal place e → place < length journal → client.0 ≢ e.request.client.0 → written_value e.writes.writes key ≡ None
-  none_written place e at l apart = written_once e.writes.writes key sound.ascending ∙ none (written_at e.writes.writes key) refl
+  none_written place e at l apart = written_once e.writes.writes key e.writes.ascending ∙ none (written_at e.writes.writes key) refl
     where
       parts : IsSoundEntry C e × bytes.Agrees (journal_rows C journal place) e.reads
       parts = entry_sound C journal s place e at
@@ -294,7 +280,7 @@ module _ (C : Settings) (journal : List Entry) (s : IsSoundJournal C journal) (c
       value : value_at_key (journal_rows C journal (place + 1)) key ≡ unwrap_or (written_at e.writes.writes key) (value_at_key (journal_rows C journal place) key)
       value =
           value_more writes_of (opening_bytes C) journal place e key s.ascending l (get_or_from_slice_get journal place e e at)
-          ∙ ap (λ o. unwrap_or o (value_at_key (journal_rows C journal place) key)) (written_once e.writes.writes key sound.ascending)
+          ∙ ap (λ o. unwrap_or o (value_at_key (journal_rows C journal place) key)) (written_once e.writes.writes key e.writes.ascending)
 
       none : (o : Option (Option (List ℕ))) → written_at e.writes.writes key ≡ o → o ≡ None
       none None is = refl
@@ -326,7 +312,7 @@ module _ (C : Settings) (journal : List Entry) (s : IsSoundJournal C journal) (c
                   client_is = sym own;
                   kept = ap (λ c. get (tree_at C journal (suc n)).kept c) same ∙ kept_next C journal s n e at;
                   writer = wrote ∙ ap (λ o. is_written o (n + 1) (last_writer writes_of journal n key))
-                      (written_once e.writes.writes key sound.ascending ∙ (ap (λ (c : ClientId). written_at e.writes.writes (spelled_key (keys.Idem c))) own ∙ sound.keeps));
+                      (written_once e.writes.writes key e.writes.ascending ∙ (ap (λ (c : ClientId). written_at e.writes.writes (spelled_key (keys.Idem c))) own ∙ sound.keeps));
                 }))
             | inr apart ↦
                 (let still : get (tree_at C journal (suc n)).kept client.0 ≡ get (tree_at C journal n).kept client.0 = kept_past C journal s n e client.0 at apart in

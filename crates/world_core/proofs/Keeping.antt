@@ -9,10 +9,8 @@ use Rattle.fs_base.specs.declared.call.Call.TheVariants as calls
 use Rattle.fs_base.specs.declared.call.Place.{Place}
 use Rattle.fs_base.specs.declared.call.Request.{Request}
 use Rattle.fs_base.specs.declared.code.Code.{Code}
-use Rattle.fs_base.specs.declared.code.Code.TheVariants.{Stale}
 use Rattle.fs_base.specs.declared.path.Path.{Path}
 use Rattle.fs_base.specs.declared.reply.Reply.{Reply}
-use Rattle.fs_base.specs.declared.reply.Reply.TheVariants.{Refused}
 use Rattle.tree_model.specs.declared.kept.KeptReply.{KeptReply}
 use Rattle.tree_model.specs.declared.new_node.NewNode.{NewNode}
 use Rattle.tree_model.specs.declared.node.Node.{Node}
@@ -21,12 +19,13 @@ use Rattle.tree_model.specs.declared.node.NodePart.TheVariants.{Dir, File, Link}
 use Rattle.tree_model.specs.declared.walk.Walked.{Walked}
 use Rattle.tree_model.specs.declared.walk.Walked.TheVariants.{At, AtParent, NoName, Stopped}
 use Rattle.tree_model.specs.declared.walk.WalkEnd.TheVariants.{Follow, Parent}
-use Rattle.tree_model.specs.Calls.{effect, effect_of, apply, is_query, settle, after_kept}
+use Rattle.tree_model.specs.Calls.{effect, effect_of, apply, is_query, settle}
 use Rattle.tree_model.specs.Creating.{make, make_at, add_child, add_in, unless_there, is_layout, new_dir, new_file, new_link}
-use Rattle.tree_model.specs.Effects.{Effect, Leaves, Makes, refuses, on_path}
+use Rattle.tree_model.specs.Effects.{Effect, Leaves, Makes, Settles, at_length, settled_by, refuses, on_path}
 use Rattle.tree_model.specs.Finding.{if_there, on_node}
 use Rattle.tree_model.specs.Tree.{Tree, next_at}
 use Rattle.tree_model.specs.Walk.{resolve}
+use Rattle.tree_model.proofs.ApplyLaws.{apply_new, settle_at}
 use Rattle.tree_model.proofs.MapLaws.{ids, get-set_same, get-set_other}
 
 -- ---- effects
@@ -35,6 +34,12 @@ use Rattle.tree_model.proofs.MapLaws.{ids, get-set_same, get-set_other}
 abbrev pub Keeps : Tree → Effect → Type 0
 Keeps T (Leaves reply) = Unit {0}
 Keeps T (Makes tree reply) = tree.kept ≡ T.kept
+Keeps T (Settles tree) = (settled : ℕ) → (tree settled).kept ≡ T.kept
+
+keeps_at : (T : Tree) (settled : ℕ) (f : Effect) → Keeps T f → Keeps T (at_length settled f)
+keeps_at T settled (Leaves reply) h = h
+keeps_at T settled (Makes tree reply) h = h
+keeps_at T settled (Settles tree) h = h settled
 
 by_words : (P : Effect → Type 0) (path : Result Path Code) (then : Path → Effect) → ((code : Code) → P (refuses code)) → ((path : Path) → P (then path)) → P (on_path path then)
 by_words P (Err code) then refused going = refused code
@@ -94,37 +99,22 @@ update_keeps C T q _ is = tt
 abbrev pub IsNew : Option KeptReply → ℕ → Type 0
 IsNew o number = MatchOption o ⊤ (λ kept. kept.number < number)
 
-fresh : (C : Settings) (T : Tree) (q : Request) (o : Option KeptReply) → IsNew o q.number → after_kept C T q o ≡ settle T q (effect C T q)
-fresh C T q None h = refl
-fresh C T q (Some kept) h =
-    let other : (kept.number == q.number) ≡ false = ne_eqb kept.number q.number (λ e. omega arith) in
-    let later : nat_lt q.number kept.number ≡ false = le-ltb q.number kept.number (omega arith) in
-    ap (λ b. cond b (T, kept.reply) (cond (nat_lt q.number kept.number) (T, Refused (Stale kept.number)) (settle T q (effect C T q)))) other
-    ∙ ap (λ b. cond b (T, Refused (Stale kept.number)) (settle T q (effect C T q))) later
-
--- it has its effect
-pub apply_new : (C : Settings) (T : Tree) (q : Request) → IsNew (get T.kept q.client.0) q.number → apply C T q ≡ settle T q (effect C T q)
-unfolding apply
-apply_new C T q new = here (is_query q.call)
-  where
-    here : (b : Bool) → cond b (settle T q (effect C T q)) (after_kept C T q (get T.kept q.client.0)) ≡ settle T q (effect C T q)
-    here true = refl
-    here false = fresh C T q (get T.kept q.client.0) new
-
 abbrev pub kept_as : Request → Reply → KeptReply
 kept_as q reply = record { number = q.number; reply = reply }
 
 -- an update that makes a tree keeps its reply, and leaves what is kept of other clients
-module _ (C : Settings) (T : Tree) (q : Request) (V : Tree) (reply : Reply) (update : is_query q.call ≡ false) (new : IsNew (get T.kept q.client.0) q.number) (is : effect C T q ≡ Makes V reply) where
-  kept_tree : (apply C T q).0 ≡ (settle T q (Makes V reply)).0
-  kept_tree = ap (λ (x : Tree × Reply). x.0) (apply_new C T q new) ∙ ap (λ (f : Effect). (settle T q f).0) is
+module _ (C : Settings) (T : Tree) (q : Request) (V : Tree) (reply : Reply) (update : is_query q.call ≡ false) (new : IsNew (get T.kept q.client.0) q.number) (is : at_length (settled_by reply) (effect C T q) ≡ Makes V reply) where
+  kept_tree : (apply C T q (settled_by reply)).0 ≡ (settle T q (settled_by reply) (Makes V reply)).0
+  kept_tree =
+      ap (λ (x : Tree × Reply). x.0) (apply_new C T q (settled_by reply) new ∙ settle_at T q (settled_by reply) (effect C T q))
+      ∙ ap (λ (f : Effect). (settle T q (settled_by reply) f).0) is
 
-  pub kept_own : get (apply C T q).0.kept q.client.0 ≡ Some (kept_as q reply)
+  pub kept_own : get (apply C T q (settled_by reply)).0.kept q.client.0 ≡ Some (kept_as q reply)
   kept_own = ap (λ (x : Tree). get x.kept q.client.0) kept_tree ∙ get-set_same ids V.kept q.client.0 (Some (kept_as q reply))
 
-  pub kept_other : (client : ℕ) → client ≢ q.client.0 → get (apply C T q).0.kept client ≡ get T.kept client
+  pub kept_other : (client : ℕ) → client ≢ q.client.0 → get (apply C T q (settled_by reply)).0.kept client ≡ get T.kept client
   kept_other client apart =
-      let same : V.kept ≡ T.kept = subst (Keeps T) is (update_keeps C T q q.call update) in
+      let same : V.kept ≡ T.kept = subst (Keeps T) is (keeps_at T (settled_by reply) (effect C T q) (update_keeps C T q q.call update)) in
       ap (λ (x : Tree). get x.kept client) kept_tree
       ∙ (get-set_other ids V.kept q.client.0 (Some (kept_as q reply)) client apart
       ∙ ap (λ m. get m client) same)

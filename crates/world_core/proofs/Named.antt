@@ -14,8 +14,9 @@ use Rattle.path_walk.specs.Sound.{IsSoundEntry}
 use Rattle.path_walk.proofs.WholeLaws.{kept_in}
 use Rattle.row_tree.specs.HasTree.{HasTree}
 use Rattle.tree_model.specs.Calls.{apply, after_kept, effect, is_query, settle}
-use Rattle.tree_model.specs.Effects.{Makes}
+use Rattle.tree_model.specs.Effects.{Makes, at_length, settled_by}
 use Rattle.tree_model.specs.Tree.{Tree}
+use Rattle.tree_model.proofs.ApplyLaws.{apply_update}
 use Rattle.tree_model.specs.declared.kept.KeptReply.{KeptReply}
 use Rattle.txn_task.specs.declared.messages.Entry.{Entry}
 use Rattle.meta_task.specs.Task.{TaskView, IsStale, ShowsNew}
@@ -121,20 +122,16 @@ module _ (C : Settings) (journal : List Entry) (s : IsSoundJournal C journal) wh
       subst (λ (T : Tree). MatchOption (get T.kept q.client.0) ⊤ (λ kept. kept.number < q.number)) tree.3
       (kept_in tree.0 q (before tree.0 (record { rows = journal_rows C journal snapshot; ascending = rows_ascending C journal s snapshot; spells = tree.1; agrees = agrees })))
 
-  apply_update : (T : Tree) (q : Request) → is_query q.call ≡ false → apply C T q ≡ after_kept C T q (get T.kept q.client.0)
-  unfolding apply
-  apply_update T q update = ap (λ b. cond b (settle T q (effect C T q)) (after_kept C T q (get T.kept q.client.0))) update
-
   -- the same number again is told what is kept
-  told_again : (T : Tree) (q : Request) (kept : KeptReply) → is_query q.call ≡ false → get T.kept q.client.0 ≡ Some kept → kept.number ≡ q.number → apply C T q ≡ (T, kept.reply)
-  told_again T q kept update is same =
-      apply_update T q update ∙ (ap (after_kept C T q) is
-      ∙ ap (λ b. cond b (T, kept.reply) (cond (nat_lt q.number kept.number) (T, Refused (codes.Stale kept.number)) (settle T q (effect C T q)))) (eq-eqb kept.number q.number same))
+  told_again : (T : Tree) (q : Request) (settled : ℕ) (kept : KeptReply) → is_query q.call ≡ false → get T.kept q.client.0 ≡ Some kept → kept.number ≡ q.number → apply C T q settled ≡ (T, kept.reply)
+  told_again T q settled kept update is same =
+      apply_update C T q settled update ∙ (ap (after_kept C T q settled) is
+      ∙ ap (λ b. cond b (T, kept.reply) (cond (nat_lt q.number kept.number) (T, Refused (codes.Stale kept.number)) (settle T q settled (effect C T q)))) (eq-eqb kept.number q.number same))
 
   no_refusal : (place : ℕ) (e : Entry) → EntryAt journal place e → IsNoRefusal e.reply
   no_refusal place e at =
       let sound : IsSoundEntry C e × bytes.Agrees (journal_rows C journal place) e.reads = entry_sound C journal s place e at in
-      let made : (V : Tree) × (effect C (tree_at C journal place) e.request ≡ Makes V e.reply) = sound.0.makes (journal_rows C journal place) (tree_at C journal place) (rows_ascending C journal s place) (rows_tree C journal s place) sound.1 in
+      let made : (V : Tree) × (at_length (settled_by e.reply) (effect C (tree_at C journal place) e.request) ≡ Makes V e.reply) = sound.0.makes (journal_rows C journal place) (tree_at C journal place) (rows_ascending C journal s place) (rows_tree C journal s place) sound.1 in
       made_reply C (tree_at C journal place) made.0 e.request e.reply made.1
 
   module _ (attempts k : ℕ) (script : Script) (op : ℕ) (receipts : List Listed) (past : IsPast C attempts journal k script op receipts) (front : ℕ) (q : Request) (number : q.number ≡ op + 1) (mine : q.client ≡ script.id) (small : q.client.0 < 2 ^ 128)
@@ -147,7 +144,7 @@ module _ (C : Settings) (journal : List Entry) (s : IsSoundJournal C journal) wh
     ]
 
     -- a stale number has none
-    no_entry_stale : (snapshot : ℕ) (reply : Reply) → snapshot ≤ length journal → IsStale reply → apply C (tree_at C journal snapshot) q ≡ (tree_at C journal snapshot, reply) → (p : ℕ) (x : Entry) → EntryAt journal p x → x.request ≡ q → p < snapshot → ⊥
+    no_entry_stale : (snapshot : ℕ) (reply : Reply) → snapshot ≤ length journal → IsStale reply → ((settled : ℕ) → apply C (tree_at C journal snapshot) q settled ≡ (tree_at C journal snapshot, reply)) → (p : ℕ) (x : Entry) → EntryAt journal p x → x.request ≡ q → p < snapshot → ⊥
     no_entry_stale snapshot reply within stale told p x at same l =
         let T : Tree = tree_at C journal snapshot in
         let kept : (k : KeptReply) × (get T.kept x.request.client.0 ≡ Some k) × (x.request.number ≤ k.number) = kept_above C journal s p x at snapshot l in
@@ -162,8 +159,8 @@ module _ (C : Settings) (journal : List Entry) (s : IsSoundJournal C journal) wh
               let kept_is : record { number = by.entry.request.number; reply = by.entry.reply } ≡ kept.0 = kept_same (record { number = by.entry.request.number; reply = by.entry.reply }) kept.0 row in
               let numbers : by.entry.request.number ≡ kept.0.number = ap (λ (r : KeptReply). r.number) kept_is in
               let way : (by.entry.request ≡ q) × (front ≤ by.place) = is_own by.place by.entry by.at by.client_is (omega arith) in
-              let again : apply C T q ≡ (T, kept.0.reply) = told_again T q kept.0 update found (sym numbers ∙ ap (λ (r : Request). r.number) way.0) in
-              let reply_is : by.entry.reply ≡ Refused (codes.Stale stale.0) = ap (λ (r : KeptReply). r.reply) kept_is ∙ (ap (λ (pair : Tree × Reply). pair.1) (sym again ∙ told) ∙ stale.1) in
+              let again : apply C T q 0 ≡ (T, kept.0.reply) = told_again T q 0 kept.0 update found (sym numbers ∙ ap (λ (r : Request). r.number) way.0) in
+              let reply_is : by.entry.reply ≡ Refused (codes.Stale stale.0) = ap (λ (r : KeptReply). r.reply) kept_is ∙ (ap (λ (pair : Tree × Reply). pair.1) (sym again ∙ told 0) ∙ stale.1) in
               subst IsNoRefusal reply_is (no_refusal by.place by.entry by.at))
         ]
       where
@@ -172,7 +169,7 @@ module _ (C : Settings) (journal : List Entry) (s : IsSoundJournal C journal) wh
 
     -- what shows that the reply isn't an entry's
     pub no_entry_new : (task : TaskView) (floor : ℕ) (reply : Reply) → task.request ≡ q → IsBegun C journal task.request.client floor task → ShowsNew task reply
-        → apply C (tree_at C journal task.snapshot) q ≡ (tree_at C journal task.snapshot, reply) → (p : ℕ) (x : Entry) → EntryAt journal p x → x.request ≡ q → ⊥
+        → ((settled : ℕ) → apply C (tree_at C journal task.snapshot) q settled ≡ (tree_at C journal task.snapshot, reply)) → (p : ℕ) (x : Entry) → EntryAt journal p x → x.request ≡ q → ⊥
     no_entry_new task floor reply is b shows told p x at same =
         let before : p < task.snapshot = b.own p x at (ap (λ (r : Request). r.client) (same ∙ sym is)) in
         elim shows [

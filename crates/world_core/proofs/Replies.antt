@@ -26,7 +26,7 @@ use Rattle.tree_model.specs.declared.walk.WalkEnd.TheVariants.{Follow, NoFollow,
 use Rattle.tree_model.specs.Attributes.{attributes_of, changed}
 use Rattle.tree_model.specs.Calls.{effect, effect_of}
 use Rattle.tree_model.specs.Creating.{id_of, is_layout, part_for, with_child, add_numbered, add_in, add_child, unless_there, make_at, new_dir, new_file, new_link}
-use Rattle.tree_model.specs.Effects.{Effect, Leaves, Makes, refuses, on_path}
+use Rattle.tree_model.specs.Effects.{Effect, Leaves, Makes, Settles, at_length, settled_by, refuses, on_path}
 use Rattle.tree_model.specs.Finding.{found_of, stat_at, list_at, readlink_at, target_of, if_there, setattr_at}
 use Rattle.tree_model.specs.Tree.{Tree, next_at, node_with}
 use Rattle.tree_model.specs.Walk.{resolve}
@@ -35,6 +35,12 @@ use Rattle.run_record.specs.Right.{IsNoRefusal}
 abbrev RepliesWell : Effect → Type 0
 RepliesWell (Leaves reply) = Unit {0}
 RepliesWell (Makes tree reply) = IsNoRefusal reply
+RepliesWell (Settles tree) = Unit {0}
+
+well_at : (settled : ℕ) (f : Effect) → RepliesWell f → RepliesWell (at_length settled f)
+well_at settled (Leaves reply) h = h
+well_at settled (Makes tree reply) h = h
+well_at settled (Settles tree) h = tt
 
 by_path : (r : Result Path Code) (act : Path → Effect) → ((path : Path) → RepliesWell (act path)) → RepliesWell (on_path r act)
 by_path (Err code) act h = tt
@@ -133,5 +139,5 @@ call_well C T q (calls.Symlink place target) =
 call_well C T q (calls.Setattr place changes) = by_path (path_of place.text) (λ path. setattr_at T q.stamp changes (resolve T place.base path Follow)) (λ path. setattr_well T q.stamp changes (resolve T place.base path Follow))
 call_well C T q call = tt
 
-pub made_reply : (C : Settings) (T V : Tree) (q : Request) (reply : Reply) → effect C T q ≡ Makes V reply → IsNoRefusal reply
-made_reply C T V q reply is = subst RepliesWell is (call_well C T q q.call)
+pub made_reply : (C : Settings) (T V : Tree) (q : Request) (reply : Reply) → at_length (settled_by reply) (effect C T q) ≡ Makes V reply → IsNoRefusal reply
+made_reply C T V q reply is = subst RepliesWell is (well_at (settled_by reply) (effect C T q) (call_well C T q q.call))

@@ -10,7 +10,7 @@ use Rattle.fs_base.specs.declared.ids.ClientId.{ClientId}
 use Rattle.path_walk.specs.Footprint.{footprint}
 use Rattle.row_tree.specs.HasTree.{HasTree}
 use Rattle.tree_model.specs.Calls.{effect}
-use Rattle.tree_model.specs.Effects.{Makes}
+use Rattle.tree_model.specs.Effects.{Makes, at_length, settled_by}
 use Rattle.tree_model.specs.Tree.{Tree}
 use Rattle.txn_task.specs.declared.messages.Entry.{Entry}
 use Rattle.client_core.specs.Client.{ClientView, has_ended}
@@ -40,7 +40,7 @@ entry_right C journal place e s covered at =
     let sound = entry_sound C journal s place e at in
     let tree : HasTree C (journal_rows C journal place) (tree_at C journal place) = rows_tree C journal s place in
     let tree_here : Tree = tree_at C journal place in
-    let made : (V : Tree) × (effect C tree_here e.request ≡ Makes V e.reply) = sound.0.makes (journal_rows C journal place) tree_here (rows_ascend C journal s place) tree sound.1 in
+    let made : (V : Tree) × (at_length (settled_by e.reply) (effect C tree_here e.request) ≡ Makes V e.reply) = sound.0.makes (journal_rows C journal place) tree_here (rows_ascend C journal s place) tree sound.1 in
     record {
       agrees = sound.1;
       touched = subst (λ (T : Tree). AreTouched (footprint T e.request) e.reads) tree.3

@@ -43,10 +43,14 @@ pub struct World {
 }
 
 impl Model for World {
+    ghost use Rattle.std.specs.Coded.{codes};
+    ghost use Rattle.conflict_sets.specs.contracts.sets.WriteSet as write_set;
     ghost use Rattle.world_core.specs.Objects.{no_histories};
     ghost use Rattle.world_core.specs.World.{WorldView, IsWorld};
 
     ghost Value = { WorldView };
+
+    ghost coded = { Prim.hlevel (codes, write_set.the_row.coded) };
 
     ghost view = { λ w. record { config = w.config; attempts = w.attempts; objects = record { store = w.store; nodes = no_histories w.config.nodes }; seats = w.seats.items; schedule = w.schedule; failed = w.failed } };
 

@@ -1,0 +1,2 @@
+pub mod FirstErrands
+pub mod Own

@@ -1,0 +1,11 @@
+//! What a storage node has done, and what its chunks are by that.
+#![tactic(auto)]
+
+mod bytes;
+mod chunks;
+mod history;
+mod node;
+
+pub use bytes::Run;
+pub use history::{Done, EndDone, WriteDone};
+pub use node::{NodeError, NodeState};

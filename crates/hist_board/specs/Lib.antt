@@ -1,0 +1,5 @@
+pub mod Turn
+pub mod Rule
+pub mod Plays
+pub mod Passes
+pub mod Calls

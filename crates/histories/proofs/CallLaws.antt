@@ -1,0 +1,213 @@
+-- The calls that are built owe what each call owes.
+use Rattle.std.proofs.Common.{◌≡◌, ◌⊎◌, inl, inr, ℕ, ◌+◌, ◌<◌, ◌≤◌, Bool, true, false, cond, List, Option, Some, None, Result, Ok, Err, refl, sym, ap, subst, ◌∙◌, arith}
+use Rattle.std.specs.Prelude.{◌==◌, unwrap_or}
+use Rattle.std.specs.FinMap.{get, insert}
+use Rattle.fs_base.specs.Config.{Settings}
+use Rattle.fs_base.specs.Paths.{path_of}
+use Rattle.fs_base.specs.declared.call.Call.{Call}
+use Rattle.fs_base.specs.declared.call.Call.TheVariants as calls
+use Rattle.fs_base.specs.declared.call.Changes.{Changes}
+use Rattle.fs_base.specs.declared.call.Place.{Place}
+use Rattle.fs_base.specs.declared.call.Request.{Request}
+use Rattle.fs_base.specs.declared.code.Code.{Code}
+use Rattle.fs_base.specs.declared.code.Code.TheVariants as codes
+use Rattle.fs_base.specs.declared.code.Limit.TheVariants.{Inodes}
+use Rattle.fs_base.specs.declared.kind.Kind.TheVariants as kinds
+use Rattle.fs_base.specs.declared.layout.DefaultLayout.{DefaultLayout}
+use Rattle.fs_base.specs.declared.path.Path.{Path}
+use Rattle.fs_base.specs.declared.reply.Reply.{Reply}
+use Rattle.fs_base.specs.declared.reply.Reply.TheVariants.{Done, Made, Attr}
+use Rattle.tree_model.specs.declared.new_node.NewNode.{NewNode}
+use Rattle.tree_model.specs.declared.node.Node.{Node}
+use Rattle.tree_model.specs.declared.node.NodePart.{NodePart}
+use Rattle.tree_model.specs.declared.node.NodePart.TheVariants.{Dir, File, Link}
+use Rattle.tree_model.specs.declared.walk.WalkEnd.{WalkEnd}
+use Rattle.tree_model.specs.declared.walk.WalkEnd.TheVariants.{Follow, NoFollow, Parent}
+use Rattle.tree_model.specs.declared.walk.Walked.{Walked}
+use Rattle.tree_model.specs.declared.walk.Walked.TheVariants.{At, AtParent, NoName, Stopped}
+use Rattle.tree_model.specs.Attributes.{changed, attributes_of}
+use Rattle.tree_model.specs.Calls.{effect_of}
+use Rattle.tree_model.specs.Creating.{id_of, is_layout, part_for, with_child, add_numbered, add_in, add_child, unless_there, make_at, make, symlink, new_dir, new_file, new_link}
+use Rattle.tree_model.specs.Effects.{Effect, Leaves, Makes, Settles, at_length, settled_by, on_path}
+use Rattle.tree_model.specs.Finding.{at_end, found_of, if_there, on_node, list_at, target_of, readlink_at, stat_at, setattr_at}
+use Rattle.tree_model.specs.Maps.{set}
+use Rattle.tree_model.specs.Tree.{Tree, next_at, node_with}
+use Rattle.tree_model.specs.Walk.{resolve}
+use Rattle.tree_model.proofs.MapLaws.{ids, get-set_same, get-set_cases}
+use Rattle.histories.specs.Steps.{PartLasts, NodeLasts, IsGivenOut, IsTreeStep, IsLawful}
+use Rattle.histories.proofs.Versions.{node_same, part_same}
+
+-- what an effect owes that isn't a purge's
+abbrev pub Owes : Tree → Effect → Type 0
+Owes T (Leaves reply) = Unit {0}
+Owes T (Makes V reply) = IsTreeStep T V × (V.kept ≡ T.kept) × (V.doomed ≡ T.doomed)
+Owes T (Settles V) = (settled : ℕ) → IsTreeStep T (V settled) × ((V settled).kept ≡ T.kept) × ((V settled).doomed ≡ T.doomed)
+
+owes_at : (T : Tree) (settled : ℕ) (f : Effect) → Owes T f → Owes T (at_length settled f)
+owes_at T settled (Leaves reply) h = h
+owes_at T settled (Makes V reply) h = h
+owes_at T settled (Settles V) h = h settled
+
+owes_on_path : (T : Tree) (r : Result Path Code) (f : Path → Effect) → ((path : Path) → Owes T (f path)) → Owes T (on_path r f)
+owes_on_path T (Err code) f h = tt
+owes_on_path T (Ok path) f h = h path
+
+owes_at_end : (T : Tree) (place : Place) (end : WalkEnd) (f : Walked → Effect) → ((walked : Walked) → Owes T (f walked)) → Owes T (at_end T place end f)
+owes_at_end T place end f h = owes_on_path T (path_of place.text) (λ path. f (resolve T place.base path end)) (λ path. h (resolve T place.base path end))
+
+owes_if_there : (T : Tree) (o : Option Node) (f : Node → Effect) → ((node : Node) → o ≡ Some node → Owes T (f node)) → Owes T (if_there o f)
+owes_if_there T None f h = tt
+owes_if_there T (Some node) f h = h node refl
+
+owes_on_node : (T : Tree) (walked : Walked) (f : ℕ → Node → Effect) → ((id : ℕ) (node : Node) → get T.nodes id ≡ Some node → Owes T (f id node)) → Owes T (on_node T walked f)
+owes_on_node T (At id kind) f h = owes_if_there T (get T.nodes id) (f id) (h id)
+owes_on_node T (Stopped code) f h = tt
+owes_on_node T (AtParent id name) f h = tt
+owes_on_node T (NoName id) f h = tt
+
+-- ---- finding
+
+owes_list : (T : Tree) (walked : Walked) → Owes T (list_at T walked)
+owes_list T (At id kinds.Dir) = tt
+owes_list T (At id kinds.File) = tt
+owes_list T (At id kinds.Link) = tt
+owes_list T (Stopped code) = tt
+owes_list T (AtParent id name) = tt
+owes_list T (NoName id) = tt
+
+owes_target : (T : Tree) (part : NodePart) → Owes T (target_of part)
+owes_target T (Dir layout) = tt
+owes_target T (File length truncs layout hint) = tt
+owes_target T (Link target) = tt
+
+owes_readlink : (T : Tree) (walked : Walked) → Owes T (readlink_at T walked)
+owes_readlink T (At id kinds.Dir) = tt
+owes_readlink T (At id kinds.File) = tt
+owes_readlink T (At id kinds.Link) = owes_if_there T (get T.nodes id) (λ node. target_of node.part) (λ node is. owes_target T node.part)
+owes_readlink T (Stopped code) = tt
+owes_readlink T (AtParent id name) = tt
+owes_readlink T (NoName id) = tt
+
+-- a node is changed in its place, and its part stays
+step_changed : (T : Tree) (id : ℕ) (node new : Node) → get T.nodes id ≡ Some node → new.part ≡ node.part → IsTreeStep T (record T { nodes = insert T.nodes id new })
+step_changed T id node new is part =
+    record {
+      next = λ server. omega arith;
+      nodes = λ i. inl (by_cases i (get (insert T.nodes id new) i) refl);
+      purged = λ i layout hint there. inl there;
+    }
+  where
+    lasts : NodeLasts (Some node) (Some new)
+    lasts = subst (PartLasts node.part) (sym part) (part_same node.part)
+
+    by_cases : (i : ℕ) (o : Option Node) → get (set T.nodes id (Some new)) i ≡ o → NodeLasts (get T.nodes i) (get (insert T.nodes id new) i)
+    by_cases i o e = elim (get-set_cases ids T.nodes id (Some new) i o e) [
+      | inl here ↦
+          subst (λ (p : Option Node). NodeLasts (get T.nodes i) p) (here.1 ∙ sym e)
+          (subst (λ j. NodeLasts (get T.nodes j) (Some new)) (sym here.0) (subst (λ (p : Option Node). NodeLasts p (Some new)) (sym is) lasts))
+      | inr other ↦ subst (NodeLasts (get T.nodes i)) (other.1 ∙ sym e) (node_same (get T.nodes i))
+    ]
+
+owes_setattr : (T : Tree) (stamp : ℕ) (changes : Changes) (walked : Walked) → Owes T (setattr_at T stamp changes walked)
+owes_setattr T stamp changes walked =
+    owes_on_node T walked (λ id node. Makes (record T { nodes = insert T.nodes id (changed changes stamp node) }) Done)
+    (λ id node is. (step_changed T id node (changed changes stamp node) is refl, refl, refl))
+
+-- ---- making
+
+module _ (T : Tree) (server : ℕ) (known : server < 16) where
+  step_child : (dir : ℕ) (name : List ℕ) (node : Node) → IsTreeStep T (with_child T server dir name node)
+  step_child dir name node =
+      record {
+        next = λ s. by_number s (next_at (with_child T server dir name node).next s) refl;
+        nodes = λ i. by_node i (get (with_child T server dir name node).nodes i) refl;
+        purged = λ i layout hint there. inl there;
+      }
+    where
+      new : next_at (insert T.next server (next_at T.next server + 1)) server ≡ next_at T.next server + 1
+      new = ap (λ (o : Option ℕ). unwrap_or o 1) (get-set_same ids T.next server (Some (next_at T.next server + 1)))
+
+      by_number : (s n : ℕ) → next_at (insert T.next server (next_at T.next server + 1)) s ≡ n → next_at T.next s ≤ next_at (insert T.next server (next_at T.next server + 1)) s
+      by_number s n e = elim (get-set_cases ids T.next server (Some (next_at T.next server + 1)) s (get (insert T.next server (next_at T.next server + 1)) s) refl) [
+        | inl here ↦ subst (λ k. next_at T.next k ≤ next_at (insert T.next server (next_at T.next server + 1)) k) (sym here.0) (omega (arith, new))
+        | inr other ↦ (let same : next_at T.next s ≡ next_at (insert T.next server (next_at T.next server + 1)) s = ap (λ (o : Option ℕ). unwrap_or o 1) other.1 in omega arith)
+      ]
+
+      by_node : (i : ℕ) (o : Option Node) → get (set T.nodes (id_of (next_at T.next server) server) (Some node)) i ≡ o
+          → NodeLasts (get T.nodes i) (get (with_child T server dir name node).nodes i) ⊎ IsGivenOut T (with_child T server dir name node) i
+      by_node i o e = elim (get-set_cases ids T.nodes (id_of (next_at T.next server) server) (Some node) i o e) [
+        | inl here ↦ inr (record { server = server; known = known; is = here.0; rises = omega (arith, new) })
+        | inr other ↦ inl (subst (NodeLasts (get T.nodes i)) (other.1 ∙ sym e) (node_same (get T.nodes i)))
+      ]
+
+  module _ (C : Settings) (stamp : ℕ) (made : NewNode) where
+    owes_numbered : (dir : ℕ) (name : List ℕ) (layout : DefaultLayout) → Owes T (add_numbered C T server stamp made dir name layout)
+    owes_numbered dir name layout = by_limit (next_at T.next server == 4294967295)
+      where
+        node : Node
+        node = node_with made.mode stamp (part_for C made.part (id_of (next_at T.next server) server) layout)
+
+        by_limit : (b : Bool) → Owes T (cond b (Leaves (Reply.Refused (codes.AtLimit Inodes))) (Makes (with_child T server dir name (node_with made.mode stamp (part_for C made.part (id_of (next_at T.next server) server) layout))) (Made (id_of (next_at T.next server) server))))
+        by_limit true = tt
+        by_limit false = (step_child dir name (node_with made.mode stamp (part_for C made.part (id_of (next_at T.next server) server) layout)), refl, refl)
+
+    owes_in : (dir : ℕ) (name : List ℕ) (part : NodePart) → Owes T (add_in C T server stamp made dir name part)
+    owes_in dir name (Dir layout) = owes_numbered dir name (unwrap_or made.layout layout)
+    owes_in dir name (File length truncs layout hint) = tt
+    owes_in dir name (Link target) = tt
+
+    owes_child : (dir : ℕ) (name : List ℕ) (o : Option Node) → Owes T (add_child C T server stamp made dir name o)
+    owes_child dir name None = tt
+    owes_child dir name (Some parent) = owes_in dir name parent.part
+
+    owes_unless : (o : Option ℕ) (f : Effect) → Owes T f → Owes T (unless_there o f)
+    owes_unless None f h = h
+    owes_unless (Some id) f h = tt
+
+    owes_make_at : (walked : Walked) → Owes T (make_at C T server stamp made walked)
+    owes_make_at (At id kind) = tt
+    owes_make_at (NoName id) = tt
+    owes_make_at (Stopped code) = tt
+    owes_make_at (AtParent dir name) = owes_unless (get T.entries (dir, name)) (add_child C T server stamp made dir name (get T.nodes dir)) (owes_child dir name (get T.nodes dir))
+
+    owes_make : (place : Place) → Owes T (make C T server stamp made place)
+    owes_make place =
+        owes_on_path T (path_of place.text) (λ path. cond (is_layout C made.layout) (make_at C T server stamp made (resolve T place.base path Parent)) (Leaves (Reply.Refused codes.BadLayout)))
+        (λ path. by_layout path (is_layout C made.layout))
+      where
+        by_layout : (path : Path) (b : Bool) → Owes T (cond b (make_at C T server stamp made (resolve T place.base path Parent)) (Leaves (Reply.Refused codes.BadLayout)))
+        by_layout path true = owes_make_at (resolve T place.base path Parent)
+        by_layout path false = tt
+
+  owes_symlink : (C : Settings) (stamp : ℕ) (place : Place) (target : List ℕ) → Owes T (symlink C T server stamp place target)
+  owes_symlink C stamp place target =
+      owes_on_path T (path_of place.text) (λ path. on_path (path_of target) (λ leads. make_at C T server stamp (new_link target) (resolve T place.base path Parent)))
+      (λ path. owes_on_path T (path_of target) (λ leads. make_at C T server stamp (new_link target) (resolve T place.base path Parent))
+      (λ leads. owes_make_at C stamp (new_link target) (resolve T place.base path Parent)))
+
+-- ---- all of them
+
+pub owes_call : (C : Settings) (T : Tree) (q : Request) (call : Call) → q.server < 16 → Owes T (effect_of C T q call)
+owes_call C T q (calls.Lookup place) known = owes_at_end T place NoFollow (λ walked. Leaves (found_of walked)) (λ walked. tt)
+owes_call C T q (calls.Stat place) known = owes_at_end T place Follow (stat_at T) (λ walked. owes_on_node T walked (λ id node. Leaves (Attr (attributes_of T id node))) (λ id node is. tt))
+owes_call C T q (calls.List place) known = owes_at_end T place Follow (list_at T) (owes_list T)
+owes_call C T q (calls.Readlink place) known = owes_at_end T place NoFollow (readlink_at T) (owes_readlink T)
+owes_call C T q (calls.Mkdir place mode layout) known = owes_make T q.server known C q.stamp (new_dir mode layout) place
+owes_call C T q (calls.Create place mode layout) known = owes_make T q.server known C q.stamp (new_file mode layout) place
+owes_call C T q (calls.Symlink place target) known = owes_symlink T q.server known C q.stamp place target
+owes_call C T q (calls.Setattr place changes) known = owes_at_end T place Follow (setattr_at T q.stamp changes) (owes_setattr T q.stamp changes)
+owes_call C T q _ known = tt
+
+pub lawful : (C : Settings) → C.servers ≤ 16 → IsLawful C
+lawful C few T V q reply known is =
+    let owed : IsTreeStep T V × (V.kept ≡ T.kept) × (V.doomed ≡ T.doomed) = subst (Owes T) is (owes_at T (settled_by reply) (effect_of C T q q.call) (owes_call C T q q.call (omega arith))) in
+    record {
+      step = owed.0;
+      kept = owed.1;
+      purges = λ id layout hint there. inl (ap (λ m. get m id) (sym owed.2) ∙ there);
+      purge = λ id call. absurd (none id call);
+      done = λ id call. absurd (none id call);
+    }
+  where
+    none : (id : ℕ) → q.call ≡ calls.Purge id → ⊥
+    none id call = let e : Leaves Done ≡ Makes V reply = sym (ap (λ c. at_length (settled_by reply) (effect_of C T q c)) call) ∙ is in cc

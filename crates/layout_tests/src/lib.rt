@@ -1,0 +1,5 @@
+//! Layouts, pieces and owners on numbers that were worked out by hand.
+#![tactic(auto)]
+
+#[cfg(test)]
+mod tests;
