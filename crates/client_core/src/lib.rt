@@ -5,8 +5,6 @@ mod messages;
 mod plan;
 mod state;
 mod steps;
-#[cfg(test)]
-mod tests;
 
 pub use messages::{ClientAnswer, ClientAsk};
 pub use plan::{Op, Plan, Schedule, Script};

@@ -1,14 +1,13 @@
 //! The program `fs3meta`: steps a scenario, and writes the replies.
 #![tactic(auto)]
 
-mod top;
-
-use crate::top::{Status, plain_main};
 use fs_io::{StdSink, StdSource};
+use meta_top::{Status, plain_main};
 use std::alloc::Global;
 use std::process::ExitCode;
 use std::rt::Env;
 use std::{env, io};
+
 /// The words of the command line, but for the program's name.
 fn words(alloc: Global, rt: &(impl Env + AllocGlobal)) -> io::Result<Vec<String>> {
     let mut words = Vec::new(alloc);
@@ -30,6 +29,3 @@ fn main(rt: HostRuntime) -> ExitCode {
     };
     ExitCode::from(status as u8)
 }
-
-#[cfg(test)]
-mod tests;

@@ -6,8 +6,6 @@ mod replies;
 mod reply_text;
 mod run;
 mod summary;
-#[cfg(test)]
-mod tests;
 
 pub use replies::write_replies;
 pub use run::{Listed, Record, Summary};

@@ -8,8 +8,6 @@ mod numbers;
 mod ops;
 mod read;
 mod schedule;
-#[cfg(test)]
-mod tests;
 
 pub use broken::{Broken, ScenarioError, too_long};
 pub use read::read_scenario;

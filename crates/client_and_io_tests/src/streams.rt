@@ -1,4 +1,6 @@
-use super::*;
+//! Readers and writers of std, and calls that fail.
+
+use fs_io::{MemSink, MemSource, ReadAllError, StdSink, StdSource, read_all, write_all};
 use std::test::Fail;
 
 #[test]

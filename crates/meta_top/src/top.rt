@@ -1,7 +1,7 @@
 ghost use Rattle.std.specs.Prelude.{◌≡◌, ◌∷◌, [], false, IsTrue, IfOk, IfErr, Err, string_bytes};
 ghost use Rattle.fs_io.specs.Reading.{TellsFault};
 ghost use Rattle.client_core.specs.Plans.{IsPlan};
-ghost use Rattle.fs3meta.specs.Top.{is_step, usage_line, bad_line, IsRunOf, IsDue, CallsFor, TellsReadFault, TellsWriteFault, Writes};
+ghost use Rattle.meta_top.specs.Top.{is_step, usage_line, bad_line, IsRunOf, IsDue, CallsFor, TellsReadFault, TellsWriteFault, Writes};
 
 use client_core::Plan;
 use fs_base::Memory;

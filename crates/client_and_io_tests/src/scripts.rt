@@ -5,9 +5,7 @@ ghost use Rattle.client_core.specs.Awaiting.{Awaits};
 ghost use Rattle.client_core.specs.Client.{Fits};
 ghost use Rattle.client_core.specs.Plans.{IsOp, IsPlace};
 
-use crate::messages::{ClientAnswer, ClientAsk};
-use crate::plan::{Op, Script};
-use crate::state::ClientState;
+use client_core::{ClientAnswer, ClientAsk, ClientState, Op, Script};
 use fs_base::{ClientId, Code, Config, InodeId, Items, Memory, Place, Reply, Text};
 use key_schema::Key;
 use std::alloc::Global;

@@ -1,8 +1,8 @@
 use Rattle.std.proofs.Common.{◌≡◌, true, ◌∙◌, sym, ap, Err}
 use Rattle.std.proofs.lemmas.Result.{IfOk-weaker}
-use Rattle.fs3meta.specs.Top.{is_step, bad_line}
-use Rattle.fs3meta.proofs.Due.{due_too_long}
-use Rattle.fs3meta.proofs.top.due_answer.Goals as goal
+use Rattle.meta_top.specs.Top.{is_step, bad_line}
+use Rattle.meta_top.proofs.Due.{due_too_long}
+use Rattle.meta_top.proofs.top.due_answer.Goals as goal
 
 pub returns-in-Err-TooLong-clause-due : goal.returns-in-Err-TooLong-clause-due
 returns-in-Err-TooLong-clause-due g c =

@@ -32,10 +32,10 @@ use Rattle.run_record.specs.Right.{AreSections, IsNoRefusal, IsRight, IsRightEnt
 use Rattle.run_record.specs.declared.run.Listed.{Listed}
 use Rattle.run_record.specs.declared.run.Record.{Record}
 use Rattle.world_core.proofs.Growth.{EntryAt_within}
-use Rattle.fs3meta.specs.Alone.{commits, listed, receipt_of, receipts_from, receipts_of, version_after}
-use Rattle.fs3meta.specs.Top.{IsRunOf}
-use Rattle.fs3meta.proofs.Marks.{IsNewIn, entry_mark, kept_after, length_free, told_mark}
-use Rattle.fs3meta.proofs.Naming.{AreNamedFrom, naming, journal_short, front_above, named_rest, of_commit, of_seen, own_entry, place_next, version_seen}
+use Rattle.meta_top.specs.Alone.{commits, listed, receipt_of, receipts_from, receipts_of, version_after}
+use Rattle.meta_top.specs.Top.{IsRunOf}
+use Rattle.meta_top.proofs.Marks.{IsNewIn, entry_mark, kept_after, length_free, told_mark}
+use Rattle.meta_top.proofs.Naming.{AreNamedFrom, naming, journal_short, front_above, named_rest, of_commit, of_seen, own_entry, place_next, version_seen}
 
 -- ---- requests and receipts by their parts
 

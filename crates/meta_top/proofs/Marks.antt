@@ -13,8 +13,8 @@ use Rattle.tree_model.specs.Tree.{Tree}
 use Rattle.tree_model.proofs.ApplyLaws.{apply_new}
 use Rattle.tree_model.proofs.MapLaws.{ids, get-set_same}
 use Rattle.run_record.specs.Right.{IsNoRefusal}
-use Rattle.fs3meta.specs.Alone.{commits, is_refusal}
-use Rattle.fs3meta.proofs.Effects.{Refusing, update_refuses}
+use Rattle.meta_top.specs.Alone.{commits, is_refusal}
+use Rattle.meta_top.proofs.Effects.{Refusing, update_refuses}
 
 -- the tree keeps no reply of the client with this number or a greater one
 abbrev pub IsNewIn : Tree → Request → Type 0

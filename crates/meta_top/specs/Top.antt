@@ -13,9 +13,9 @@ use Rattle.run_record.specs.Words.{line, setting}
 use Rattle.run_record.specs.declared.run.Record.{Record}
 use Rattle.scenario.specs.declared.broken.Broken.{Broken}
 use Rattle.scenario.specs.Scenario.{scenario_of}
-use Rattle.fs3meta.specs.Alone.{receipts_of}
-use Rattle.fs3meta.specs.declared.top.Status.{Status}
-use Rattle.fs3meta.specs.declared.top.Status.TheVariants as status
+use Rattle.meta_top.specs.Alone.{receipts_of}
+use Rattle.meta_top.specs.declared.top.Status.{Status}
+use Rattle.meta_top.specs.declared.top.Status.TheVariants as status
 
 abbrev pub is_step : List (String Global) → Bool
 is_step [] = false

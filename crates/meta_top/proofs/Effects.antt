@@ -24,7 +24,7 @@ use Rattle.tree_model.specs.declared.new_node.NewNode.{NewNode}
 use Rattle.tree_model.specs.declared.walk.WalkEnd.TheVariants.{Follow, Parent}
 use Rattle.fs_base.specs.declared.call.Place.{Place}
 use Rattle.fs_base.specs.declared.code.Code.TheVariants.{NotFound, NotDir}
-use Rattle.fs3meta.specs.Alone.{is_refusal}
+use Rattle.meta_top.specs.Alone.{is_refusal}
 
 -- ---- what an effect may be
 

@@ -1,5 +1,5 @@
 use Rattle.client_core.specs.Awaiting.{Awaits}
-use Rattle.client_core.proofs.tests.tells.Given as goal
+use Rattle.client_and_io_tests.proofs.scripts.tells.Given as goal
 
 abbrev pub invariant-loop-line : goal.invariant-loop-line
 invariant-loop-line g l =

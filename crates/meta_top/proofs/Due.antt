@@ -9,9 +9,9 @@ use Rattle.scenario.specs.declared.broken.Broken.{Broken}
 use Rattle.scenario.specs.Broken.{rule}
 use Rattle.scenario.specs.Scenario.{scenario_of}
 use Rattle.scenario.proofs.Rules.{breaks_rule_1}
-use Rattle.fs3meta.specs.declared.top.Status.{Status}
-use Rattle.fs3meta.specs.declared.top.Status.TheVariants as status
-use Rattle.fs3meta.specs.Top.{IsRunOf, IsDue, CallsFor, Writes, is_step, bad_line}
+use Rattle.meta_top.specs.declared.top.Status.{Status}
+use Rattle.meta_top.specs.declared.top.Status.TheVariants as status
+use Rattle.meta_top.specs.Top.{IsRunOf, IsDue, CallsFor, Writes, is_step, bad_line}
 
 pub calls_for_ok : (bytes : List ℕ) (plan : Plan) (s : Status) (text : List ℕ) → scenario_of bytes ≡ Ok plan → (s ≡ status.Ok) × IsRunOf plan text → CallsFor bytes s text
 calls_for_ok bytes plan s text e p = subst (λ (x : Status). CallsFor bytes x text) (sym p.0) (plan, e, p.1)

@@ -2,8 +2,8 @@ use Rattle.std.proofs.Common.{subst}
 use Rattle.std.proofs.lemmas.Result.{IfOk-weaker}
 use Rattle.client_core.specs.declared.plan.Plan.{Plan}
 use Rattle.run_record.specs.Right.{IsRight}
-use Rattle.fs3meta.proofs.Alone.{run_of}
-use Rattle.fs3meta.proofs.top.run_text.Goals as goal
+use Rattle.meta_top.proofs.Alone.{run_of}
+use Rattle.meta_top.proofs.top.run_text.Goals as goal
 
 pub returns : goal.returns
 returns c =

@@ -1,0 +1,7 @@
+//! Tests of `client_core` and `fs_io`.
+#![tactic(auto)]
+
+#[cfg(test)]
+mod scripts;
+#[cfg(test)]
+mod streams;

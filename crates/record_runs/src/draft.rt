@@ -1,0 +1,150 @@
+use anyhow::{Context, Result, bail};
+use fs_base::{Config, Items};
+use key_schema::Key;
+use row_records::{call_read, reply_read};
+use run_record::{Listed, Record, Summary};
+use std::alloc::Global;
+use std::mem;
+use txn_task::Receipt;
+
+/// What the lines so far have listed.
+#[derive(Drop)]
+pub struct Draft {
+    receipts: Items<Listed>,
+    summary: Summary,
+    conflicts: Items<(u64, Key)>,
+    gone: Items<(u8, u32)>,
+}
+
+fn number(word: &str) -> Result<Option<u64>> {
+    if word == "-" {
+        return Ok(None);
+    }
+    Ok(Some(word.parse::<u64>()?))
+}
+
+fn server(word: &str) -> Result<Option<u8>> {
+    if word == "-" {
+        return Ok(None);
+    }
+    Ok(Some(word.parse::<u8>()?))
+}
+
+/// A receipt that went through nothing.
+fn receipt(alloc: Global, words: &[&str]) -> Result<Receipt> {
+    let [op, number, server, mark, version, call, reply] = words else {
+        bail!("behind its client a receipt has seven words");
+    };
+    let (stamp, call) = call_read(alloc, hex::decode(alloc, *call)?.as_slice())?;
+    Ok(Receipt {
+        op: op.parse::<u16>()?,
+        number: self::number(number)?,
+        server: self::server(server)?,
+        stamp,
+        call,
+        reply: reply_read(alloc, hex::decode(alloc, *reply)?.as_slice())?,
+        committed: *mark == "commit",
+        version: version.parse::<u64>()?,
+        conflicts: Items::new(alloc),
+        gone: Items::new(alloc),
+    })
+}
+
+fn summary(words: &[&str]) -> Result<Summary> {
+    let [ops, commits, conflicts, stops, waiting] = words else {
+        bail!("there are five counts");
+    };
+    Ok(Summary {
+        ops: ops.parse::<u64>()?,
+        commits: commits.parse::<u64>()?,
+        conflicts: conflicts.parse::<u64>()?,
+        stops: stops.parse::<u64>()?,
+        waiting: waiting.parse::<u64>()?,
+    })
+}
+
+impl Draft {
+    pub fn new(alloc: Global) -> Draft {
+        Draft {
+            receipts: Items::new(alloc),
+            summary: Summary {
+                ops: 0,
+                commits: 0,
+                conflicts: 0,
+                stops: 0,
+                waiting: 0,
+            },
+            conflicts: Items::new(alloc),
+            gone: Items::new(alloc),
+        }
+    }
+
+    /// The receipt takes what its request went through.
+    fn push(&mut self, alloc: Global, client: u16, receipt: Receipt) -> Result<()> {
+        let mut receipt = receipt;
+        receipt.conflicts = mem::replace(&mut self.conflicts, Items::new(alloc));
+        receipt.gone = mem::replace(&mut self.gone, Items::new(alloc));
+        self.receipts.push(Listed {
+            client,
+            fronts: Items::new(alloc),
+            receipt,
+        })?;
+        Ok(())
+    }
+
+    fn read_conflict(&mut self, alloc: Global, words: &[&str]) -> Result<()> {
+        let [version, key] = words else {
+            bail!("a conflict has a version and a key");
+        };
+        let bytes = hex::decode(alloc, *key)?;
+        let key = Key::read(alloc, bytes.as_slice())?;
+        self.conflicts.push((version.parse::<u64>()?, key))?;
+        Ok(())
+    }
+
+    fn read_stop(&mut self, words: &[&str]) -> Result<()> {
+        let [server, stop] = words else {
+            bail!("a stop has a server and a number");
+        };
+        self.gone
+            .push((server.parse::<u8>()?, stop.parse::<u32>()?))?;
+        Ok(())
+    }
+
+    fn read_receipt(&mut self, alloc: Global, words: &[&str]) -> Result<()> {
+        let Some((client, words)) = words.split_first() else {
+            bail!("no client");
+        };
+        let receipt = receipt(alloc, words)?;
+        self.push(alloc, client.parse::<u16>()?, receipt)
+    }
+
+    pub fn read_line(&mut self, alloc: Global, line: &str) -> Result<()> {
+        let words: Vec<&str> = line.split(' ').collect(alloc)?;
+        let Some((kind, words)) = words.as_slice().split_first() else {
+            return Ok(());
+        };
+        match *kind {
+            "conflict" => self.read_conflict(alloc, words),
+            "gone" => self.read_stop(words),
+            "receipt" => self.read_receipt(alloc, words),
+            "end" => {
+                self.summary = summary(words)?;
+                Ok(())
+            }
+            "#" => Ok(()),
+            _ => bail!("no such line"),
+        }
+    }
+
+    /// The record under the defaults.
+    pub fn into_record(self, alloc: Global) -> Record {
+        Record {
+            config: Config::single(),
+            clients: Items::new(alloc),
+            receipts: self.receipts,
+            entries: Items::new(alloc),
+            summary: self.summary,
+        }
+    }
+}
