@@ -1,5 +1,4 @@
 pub mod AskLaws
-pub mod AwaitLaws
 pub mod KeptLaws
 pub mod Queries
 pub mod TakeLaws

@@ -1,4 +1,3 @@
-pub mod Awaiting
 pub mod Ops
 pub mod State
 pub mod Steps

@@ -14,6 +14,3 @@ pub use entry::MetaEntry;
 pub use op::OpTask;
 pub use task::MetaTask;
 pub use waiting::Waiting;
-
-#[cfg(test)]
-mod tests;

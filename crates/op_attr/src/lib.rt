@@ -6,6 +6,3 @@ mod setattr;
 mod task;
 
 pub use task::{AttrCall, AttrTask, Stage};
-
-#[cfg(test)]
-mod tests;

@@ -6,6 +6,3 @@ mod rows;
 mod task;
 
 pub use task::{CreateTask, Stage};
-
-#[cfg(test)]
-mod tests;

@@ -4,6 +4,3 @@
 mod walk;
 
 pub use walk::{Walk, WalkError, WalkStep};
-
-#[cfg(test)]
-mod tests;

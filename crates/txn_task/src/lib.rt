@@ -17,8 +17,3 @@ pub use outcome::{Outcome, Receipt};
 pub use retry::Retry;
 pub use txn::Txn;
 pub use want::{Want, WantRange, want_alloc, want_dent, want_inode, want_kept, want_range};
-
-#[cfg(test)]
-mod list_tests;
-#[cfg(test)]
-mod tests;

@@ -3,7 +3,7 @@ use Rattle.std.proofs.Common.{ap}
 use Rattle.txn_task.specs.declared.messages.Answer.{Answer}
 use Rattle.txn_task.specs.declared.messages.Ask.{Ask}
 use Rattle.txn_task.specs.declared.messages.Ask.TheVariants as asks
-use Rattle.meta_task.specs.Awaiting.{Awaits}
+use Rattle.task_runs.specs.Awaiting.{Awaits}
 use Rattle.meta_task.specs.Task.{TaskView, Asks}
 
 pub awaits : (old new : TaskView) (answer : Answer) (ask : Ask) → Asks old answer new ask → Awaits new.waiting ask
