@@ -14,6 +14,6 @@ returns-clause-goes c =
       told.0,
       told.2 ∙ sym kept.0,
       subst (λ (q : Request). IsSoundEntry c.args.self.now.config (record { request = q; reply = c.args.reply; asked = c.args.asked; reads = parts.reads; writes = parts.writes })) (sym told.0)
-      (subst (λ (reads : ReadSet). IsSoundEntry c.args.self.now.config (record { request = c.args.self.now.request; reply = c.args.reply; asked = c.args.asked; reads = reads; writes = parts.writes })) (sym told.2)
-      (c.requires.sound parts.writes c.in_ok-request.ensures.writes)),
+          (subst (λ (reads : ReadSet). IsSoundEntry c.args.self.now.config (record { request = c.args.self.now.request; reply = c.args.reply; asked = c.args.asked; reads = reads; writes = parts.writes })) (sym told.2)
+          (c.requires.sound parts.writes c.in_ok-request.ensures.writes)),
     )
