@@ -1,5 +1,5 @@
 use anyhow::{Context, Result, bail};
-use fs_base::{Config, Items};
+use fs_base::{Call, Config, Items, Reply};
 use key_schema::Key;
 use row_records::{call_read, reply_read};
 use run_record::{Listed, Record, Summary};
@@ -30,21 +30,57 @@ fn server(word: &str) -> Result<Option<u8>> {
     Ok(Some(word.parse::<u8>()?))
 }
 
-/// A receipt that went through nothing.
-fn receipt(alloc: Global, words: &[&str]) -> Result<Receipt> {
-    let [op, number, server, mark, version, call, reply] = words else {
-        bail!("behind its client a receipt has seven words");
+/// The numbers of a receipt.
+#[derive(Clone, Copy)]
+struct Numbers {
+    op: u16,
+    number: Option<u64>,
+    server: Option<u8>,
+    committed: bool,
+    version: u64,
+}
+
+fn read_numbers(words: &[&str]) -> Result<Numbers> {
+    let [op, number, server, mark, version] = words else {
+        bail!("a receipt has eight words");
     };
-    let (stamp, call) = call_read(alloc, hex::decode(alloc, *call)?.as_slice())?;
-    Ok(Receipt {
+    Ok(Numbers {
         op: op.parse::<u16>()?,
         number: self::number(number)?,
         server: self::server(server)?,
-        stamp,
-        call,
-        reply: reply_read(alloc, hex::decode(alloc, *reply)?.as_slice())?,
         committed: *mark == "commit",
         version: version.parse::<u64>()?,
+    })
+}
+
+/// A call with its stamp.
+fn call(alloc: Global, word: &str) -> Result<(u64, Call)> {
+    let bytes = hex::decode(alloc, word)?;
+    Ok(call_read(alloc, bytes.as_slice())?)
+}
+
+fn reply(alloc: Global, word: &str) -> Result<Reply> {
+    let bytes = hex::decode(alloc, word)?;
+    Ok(reply_read(alloc, bytes.as_slice())?)
+}
+
+/// A receipt that went through nothing.
+fn receipt(alloc: Global, words: &[&str]) -> Result<Receipt> {
+    let [front @ .., call, reply] = words else {
+        bail!("a receipt has eight words");
+    };
+    let numbers = read_numbers(front)?;
+    let (stamp, call) = self::call(alloc, call)?;
+    let reply = self::reply(alloc, reply)?;
+    Ok(Receipt {
+        op: numbers.op,
+        number: numbers.number,
+        server: numbers.server,
+        stamp,
+        call,
+        reply,
+        committed: numbers.committed,
+        version: numbers.version,
         conflicts: Items::new(alloc),
         gone: Items::new(alloc),
     })
