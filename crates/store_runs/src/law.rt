@@ -17,7 +17,7 @@ pub struct Touch {
 }
 
 impl EntryLaw for Touch {
-    ghost use Rattle.store_runs.specs.TwoKeys.{HasBoth, SetsOne, keeps_both, one_ascends};
+    ghost use Rattle.store_runs.specs.TwoKeys.{HasBoth, SetsOne, keeps_both};
 
     ghost reads_of = { λ entry. entry.reads };
 
@@ -28,8 +28,6 @@ impl EntryLaw for Touch {
     ghost sound = { λ config entry. SetsOne entry.writes.writes };
 
     ghost keeps_good = { λ config entry rows ascending sound good agrees. keeps_both rows entry.writes.writes ascending sound good };
-
-    ghost writes_ascend = { λ config entry sound. one_ascends entry.writes.writes sound };
 
     fn reads(&self) -> &ReadSet {
         &self.reads

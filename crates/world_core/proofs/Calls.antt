@@ -204,6 +204,12 @@ on_any (Err e) p = tt
 
 -- ---- the same configuration and opening rows
 
+-- the store after a commit's answer, by the ask
+pub answered_grows : (store after : Store MetaEntry) (ask : Ask) (entry : Entry) → ask ≡ asks.Commit entry → (after ≡ store) ⊎ (after ≡ with_entry store entry)
+    → (after ≡ store) ⊎ ((made : Entry) × (ask ≡ asks.Commit made) × (after ≡ with_entry store made))
+answered_grows store after ask entry is (inl same) = inl same
+answered_grows store after ask entry is (inr more) = inr (entry, is, more)
+
 pub config_after : (store after : Store MetaEntry) (ask : Ask) → (after ≡ store) ⊎ ((entry : Entry) × (ask ≡ asks.Commit entry) × (after ≡ with_entry store entry)) → after.config ≡ store.config
 config_after store after ask h =
     elim h [

@@ -1,6 +1,8 @@
 -- A world that begins, one that has ended, and the plan that both keep.
-use Rattle.std.proofs.Common.{◌≡◌, ℕ, ◌^◌, ◌<◌, ◌≤◌, ◌+◌, suc, List, [], ◌∷◌, false, length, map, Result, Ok, Err, IfOk, refl, sym, ap, subst, ◌∙◌, arith}
+use Rattle.std.proofs.Common.{◌≡◌, ℕ, ◌^◌, ◌<◌, ◌≤◌, ◌+◌, inl, inr, suc, Bool, List, [], ◌∷◌, Some, false, get_or, length, map, Result, Ok, Err, IfOk, refl, sym, ap, subst, ◌∙◌, arith}
+use Rattle.std.specs.Prelude.{slice_get}
 use Rattle.fs_base.specs.Config.{Settings}
+use Rattle.fs_base.specs.declared.ids.ClientId.{ClientId}
 use Rattle.fs_base.specs.declared.memory.Memory.{Memory}
 use Rattle.row_tree.specs.HasTree.{HasTree}
 use Rattle.row_tree.specs.Opening.{opening_bytes}
@@ -9,20 +11,22 @@ use Rattle.fs_base.specs.declared.row.Row.{Row}
 use Rattle.kv_store.specs.Store.{Store}
 use Rattle.meta_task.specs.declared.entry.MetaEntry.{MetaEntry}
 use Rattle.txn_task.specs.declared.messages.Entry.{Entry}
+use Rattle.client_core.specs.Client.{has_ended}
 use Rattle.client_core.specs.Plans.{AreDistinct, IsPlan, IsSchedule, ops_in}
 use Rattle.client_core.specs.declared.plan.Plan.{Plan}
+use Rattle.client_core.specs.declared.plan.Schedule.{Schedule}
 use Rattle.client_core.specs.declared.plan.Script.{Script}
 use Rattle.run_record.specs.Right.{IsRight, conflicts_in, summary_of}
 use Rattle.run_record.specs.declared.run.Record.{Record}
 use Rattle.world_core.specs.Kept.{IsSeat}
-use Rattle.world_core.specs.Objects.{entries_of, no_histories}
+use Rattle.world_core.specs.Objects.{Done, IsGrowth, IsStep, Objects, entries_of, grown, no_histories}
 use Rattle.world_core.specs.Sound.{IsOpen, IsSoundJournal}
 use Rattle.world_core.specs.World.{AreSeated, HaveEnded, IsWorld, WorldView, plan_of, receipts_in, scripts_of, seats_of}
 use Rattle.world_core.specs.declared.seats.Seat.{Seat}
 use Rattle.world_core.proofs.Counting.{few_conflicts}
 use Rattle.world_core.proofs.Righting.{right_record, sections}
 use Rattle.world_core.proofs.Rows.{length_entries}
-use Rattle.world_core.proofs.Seating.{scripts_new, seated_new}
+use Rattle.world_core.proofs.Seating.{scripts_new, seat_there, seated_new}
 
 -- ---- the plan
 
@@ -38,6 +42,43 @@ pub same_schedule : (v w : WorldView) → plan_of v ≡ plan_of w → v.schedule
 same_schedule v w same = ap (λ (plan : Plan). plan.schedule) same
 
 -- ---- a world that begins
+
+-- ---- a turn that went on
+
+-- the store grew, and the nodes stayed
+pub grown_step : (before : Objects) (store after : Store MetaEntry) (nodes : List (List Done)) (client : ClientId) → record { store = store; nodes = nodes } ≡ before → IsGrowth store after client
+    → IsStep before (record { store = after; nodes = nodes }) client
+grown_step before store after nodes client is (inl same) = inl (ap (λ (s : Store MetaEntry). record { store = s; nodes = nodes }) same ∙ is)
+grown_step before store after nodes client is (inr more) =
+    inr (more.0, ap (λ (s : Store MetaEntry). record { store = s; nodes = nodes }) more.1 ∙ ap (λ (o : Objects). grown o more.0) is, more.2)
+
+-- the client that was looked at
+pub not_ended : (seats : List Seat) (i k : ℕ) (x : Seat) (ended : Bool) → i ≡ k → k < length seats → x ≡ get_or seats i x → ended ≡ has_ended x.client → ended ≡ false
+    → (seat : Seat) → slice_get seats k ≡ Some seat → has_ended seat.client ≡ false
+not_ended seats i k x ended same l is told false_is seat at =
+    let one : Some x ≡ Some seat = sym (seat_there seats i k x same l is) ∙ at in
+    let x_is : x ≡ seat = cc in
+    ap (λ (s : Seat). has_ended s.client) (sym x_is) ∙ (sym told ∙ false_is)
+
+pub world_went : (C : Settings) (attempts : ℕ) (store after : Store MetaEntry) (nodes : List (List Done)) (seats later : List Seat) (schedule : Schedule) (failed : Bool)
+    → IsWorld (record { config = C; attempts = attempts; objects = record { store = store; nodes = nodes }; seats = seats; schedule = schedule; failed = failed })
+    → scripts_of later ≡ scripts_of seats → after.config ≡ store.config → IsOpen after → AreSeated C attempts (entries_of after.journal) later
+    → IsWorld (record { config = C; attempts = attempts; objects = record { store = after; nodes = nodes }; seats = later; schedule = schedule; failed = false })
+world_went C attempts store after nodes seats later schedule failed w scripts config opened seated =
+    let old : WorldView = record { config = C; attempts = attempts; objects = record { store = store; nodes = nodes }; seats = seats; schedule = schedule; failed = failed } in
+    let new : WorldView = record { config = C; attempts = attempts; objects = record { store = after; nodes = nodes }; seats = later; schedule = schedule; failed = false } in
+    let same : length later ≡ length seats = same_seats new old (ap (λ (ss : List Script). record { config = C; attempts = attempts; clients = ss; schedule = schedule }) scripts) in
+    record {
+      config = config ∙ w.config;
+      opened = opened;
+      attempts_from = w.attempts_from;
+      attempts_to = w.attempts_to;
+      distinct = subst AreDistinct (sym scripts) w.distinct;
+      few = subst (λ n. n ≤ 64) (sym same) w.few;
+      short = subst (λ (ss : List Script). ops_in ss ≤ 4000) (sym scripts) w.short;
+      schedule = subst (λ n. IsSchedule n schedule) (sym same) w.schedule;
+      seated = λ alive. seated;
+    }
 
 pub store_open : (C : Settings) (rows : List Row) (store : Store MetaEntry) → rows ≡ opening_bytes C → HasTree C rows (new_tree C) → store ≡ record { config = C; opening = rows; journal = [] } → IsOpen store
 store_open C rows store value tree is =

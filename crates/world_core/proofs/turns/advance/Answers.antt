@@ -24,3 +24,9 @@ returns-clause-past c =
 pub returns-clause-covered : goal.returns-clause-covered
 returns-clause-covered c =
     covered_after c.args.store.now.config c.args._attempts c.args._client.now.script c.args._client.now.op c.args._receipts.now c.args.work c.args.store.now c.exchange.new.store c.requires.working c.requires.covered c.exchange.ensures.grows
+
+pub returns-in_err-ask-clause-step : goal.returns-in_err-ask-clause-step
+returns-in_err-ask-clause-step c = growth_is c.args.store.now.config c.args._attempts c.args._client.now.script c.args._client.now.op c.args._receipts.now c.args.work c.args.store.now c.exchange.new.store c.requires.working c.exchange.ensures.grows
+
+pub returns-clause-step : goal.returns-clause-step
+returns-clause-step c = growth_is c.args.store.now.config c.args._attempts c.args._client.now.script c.args._client.now.op c.args._receipts.now c.args.work c.args.store.now c.exchange.new.store c.requires.working c.exchange.ensures.grows
