@@ -1,5 +1,7 @@
 pub mod ListEntries
-pub mod ListPages
+pub mod MoreLaws
+pub mod PageLemmas
+pub mod PageRows
 pub mod PlaceLemmas
 pub mod TellLaws
 pub mod TxnLaws

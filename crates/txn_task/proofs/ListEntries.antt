@@ -1,5 +1,5 @@
 -- Rows read one after another add the entries that they stand for.
-use Rattle.std.proofs.Common.{◌≡◌, ℕ, ◌+◌, ◌<◌, ◌==◌, length, take, get_or, eqb-true, Bool, true, false, cond, T, List, [], ◌∷◌, ◌++◌, map, Some, None, refl, sym, ap, subst, ◌∙◌, inl, inr, append_assoc}
+use Rattle.std.proofs.Common.{◌≡◌, ℕ, ◌+◌, ◌<◌, ◌^◌, ◌==◌, length, take, get_or, eqb-true, Bool, true, false, cond, T, List, [], ◌∷◌, ◌++◌, map, Option, Some, None, refl, sym, ap, subst, ◌∙◌, inl, inr, append_assoc}
 use Rattle.std.specs.Prelude.{Result, Ok, Err}
 use Rattle.std.specs.Option.{option_map}
 use Rattle.std.specs.List.{filter_map, cons_option}
@@ -7,11 +7,12 @@ use Rattle.std.specs.Ordering.{is_eq}
 use Rattle.std.specs.Cmp.{tied_itself}
 use Rattle.std.specs.FinMap.{entries, get-entries, entries_sorted, find, is_sorted}
 use Rattle.std.proofs.lemmas.List.{append-nil, take_more}
-use Rattle.std.proofs.lemmas.List.Concat.{flat_map-append}
 use Rattle.conflict_sets.specs.declared.sets.RangeRead.{RangeRead}
+use Rattle.conflict_sets.specs.declared.sets.ReadSet.{ReadSet}
 use Rattle.fs_base.specs.declared.reply.DirEntry.{DirEntry}
 use Rattle.fs_base.specs.declared.row.Row.{Row}
 use Rattle.key_schema.specs.Keys.{IsValidKey}
+use Rattle.key_schema.specs.Ranges.{dir_prefix, raised}
 use Rattle.key_schema.specs.declared.key.Key.TheVariants as keys
 use Rattle.row_records.specs.Rows.{dent_of}
 use Rattle.row_records.specs.declared.rows.DentRow.{DentRow}
@@ -22,8 +23,12 @@ use Rattle.row_tree.specs.Values.{DentValue, IsValue, spelled_value}
 use Rattle.row_tree.proofs.OneValue.{dents}
 use Rattle.tree_model.specs.Maps.{dent_cmp}
 use Rattle.tree_model.proofs.MapLaws.{decide, both_first, both_second, find_below, not_some, names}
-use Rattle.txn_task.specs.Listing.{AddsEntries, AreEntries, IsEntryOf, IsNameOf, rows_read}
+use Rattle.txn_task.specs.Agreeing.{Agrees}
+use Rattle.txn_task.specs.Listing.{AddsEntries, AreEntries, IsEntryOf, IsNameOf}
+use Rattle.txn_task.specs.Pages.{next_page, rows_of_page, page_rows}
 use Rattle.txn_task.specs.Wanted.{IsReading}
+use Rattle.txn_task.proofs.MoreLaws.{rows_moved}
+use Rattle.txn_task.proofs.PageRows.{all_pages}
 
 -- ---- a list in two parts
 same_parts : {X : Type 0} (x y : X) (xs ys : List X) → x ∷ xs ≡ y ∷ ys → (x ≡ y) × (xs ≡ ys)
@@ -65,15 +70,11 @@ pub page_more : (rows : List Row) (i : ℕ) (row : Row) (a b c : List DirEntry) 
 page_more rows i row a b c l at before this =
     subst (λ (xs : List Row). AddsEntries xs a c) (sym (take_more rows i row l ∙ ap (λ x. take i rows ++ x ∷ []) at)) (adds_more (take i rows) (row ∷ []) a b c before this)
 
--- one more page
-pub pages_more : (ranges : List RangeRead) (i : ℕ) (range : RangeRead) (a b c : List DirEntry) → i < length ranges → get_or ranges i range ≡ range → AddsEntries (rows_read (take i ranges)) a b → AddsEntries range.rows b c → AddsEntries (rows_read (take (i + 1) ranges)) a c
-pages_more ranges i range a b c l at before this =
-    subst (λ (xs : List Row). AddsEntries xs a c) (sym joined) (adds_more (rows_read (take i ranges)) range.rows a b c before this)
-  where
-    joined : rows_read (take (i + 1) ranges) ≡ rows_read (take i ranges) ++ range.rows
-    joined =
-        ap rows_read (take_more ranges i range l ∙ ap (λ x. take i ranges ++ x ∷ []) at)
-        ∙ (flat_map-append (λ (r : RangeRead). r.rows) (take i ranges) (range ∷ []) ∙ ap (λ xs. rows_read (take i ranges) ++ xs) (append-nil range.rows))
+-- one more range
+pub range_more : (hi : List ℕ) (first start : Option (List ℕ)) (ranges : List RangeRead) (i : ℕ) (range : RangeRead) (a b c : List DirEntry) → i < length ranges → get_or ranges i range ≡ range → start ≡ next_page hi first (take i ranges)
+    → AddsEntries (page_rows hi first (take i ranges)) a b → AddsEntries (rows_of_page hi start range) b c → AddsEntries (page_rows hi first (take (i + 1) ranges)) a c
+range_more hi first start ranges i range a b c l at is before this =
+    subst (λ (xs : List Row). AddsEntries xs a c) (rows_moved hi first start ranges i range l at is) (adds_more (page_rows hi first (take i ranges)) (rows_of_page hi start range) a b c before this)
 
 -- ---- one row
 never_found : {P : Type 0} (e : DirEntry) → None ≡ Some e → P
@@ -143,3 +144,12 @@ entries_among d (e ∷ es) h all =
 
 pub dir_entries : (R : List Row) (S : TypedRows) → Spells R S → (d : ℕ) → AreEntries d (dir_rows S d)
 dir_entries R S spells d = entries_among d (entries S.dents) (entries_sorted S.dents) (λ k e is. spells.fits (keys.Dent k.0 k.1) (DentValue e) (ap (option_map DentValue) (get-entries S.dents (k.0, k.1) ∙ is)))
+
+-- where all pages were read, the entries of their rows are the directory's
+pub list_told : (reads : ReadSet) (dir : ℕ) (lo hi from to : List ℕ) (ranges : List RangeRead) (found : List DirEntry) → dir < 2 ^ 36 → lo ≡ from → hi ≡ to → ◌≡◌ {A = List ℕ × List ℕ} (from, to) (dir_prefix dir, raised (dir_prefix dir)) → ranges ≡ reads.ranges
+    → next_page (raised (dir_prefix dir)) (Some (dir_prefix dir)) reads.ranges ≡ None → AddsEntries (page_rows hi (Some lo) ranges) [] found → (S : TypedRows) → Agrees S reads → found ≡ map listed (dir_rows S dir)
+list_told reads dir lo hi from to ranges found fits a b pair same none added S agrees =
+    let start = a ∙ ap (λ (p : List ℕ × List ℕ). p.0) pair in
+    let end = b ∙ ap (λ (p : List ℕ × List ℕ). p.1) pair in
+    let all : map (spelled_dent dir) (dir_rows S dir) ≡ page_rows hi (Some lo) ranges = all_pages reads dir fits none S agrees ∙ sym (λ i. page_rows (end i) (Some (start i)) (same i)) in
+    added dir (dir_rows S dir) (dir_entries agrees.rows S agrees.spells dir) (sym all)

@@ -1,8 +1,7 @@
 -- From reads and writes of bytes to typed rows.
-use Rattle.std.proofs.Common.{◌≡◌, ℕ, suc, ◌<◌, ◌^◌, List, [], ◌∷◌, ◌++◌, take, map, refl, sym, ap, subst, ◌∙◌}
+use Rattle.std.proofs.Common.{◌≡◌, ℕ, List, [], ◌∷◌, ◌++◌, refl, sym, ap, subst, ◌∙◌}
 use Rattle.std.specs.Prelude.{Option, Some, None, Bool, true, false, cond}
 use Rattle.std.specs.List.{find}
-use Rattle.std.specs.FinMap.{get}
 use Rattle.std.specs.Option.{option_map}
 use Rattle.conflict_sets.specs.Reads as bytes
 use Rattle.conflict_sets.specs.Rows.{rows_between, with_writes}
@@ -13,16 +12,12 @@ use Rattle.conflict_sets.specs.declared.sets.Write.{Write}
 use Rattle.conflict_sets.proofs.RowLemmas.{IsAscending-with_writes, by_place}
 use Rattle.fs_base.specs.declared.row.Row.{Row}
 use Rattle.key_schema.specs.Keys.{spelled_key, IsSpellable, IsValidKey}
-use Rattle.key_schema.specs.Ranges.{dir_prefix, raised}
 use Rattle.key_schema.specs.declared.key.Key.{Key}
-use Rattle.row_records.specs.declared.rows.DentRow.{DentRow}
 use Rattle.row_tree.specs.Reading.{HasNoValue}
-use Rattle.row_tree.specs.Spelling.{Spells, IsValueOf, spelled_dent}
-use Rattle.row_tree.specs.TypedRows.{TypedRows, lookup, write, dir_rows}
+use Rattle.row_tree.specs.Spelling.{Spells, IsValueOf}
+use Rattle.row_tree.specs.TypedRows.{TypedRows, lookup, write}
 use Rattle.row_tree.specs.Values.{Value, spelled_value}
-use Rattle.row_tree.proofs.DirRanges.{dir_rows_between}
 use Rattle.row_tree.proofs.OneValue.{one_value_each}
-use Rattle.row_tree.proofs.Ranges.{empty_range, used_range}
 use Rattle.row_tree.proofs.SpellingLaws.{at_any, spells_write, found_back, lookup-form}
 use Rattle.txn_task.specs.Agreeing.{Agrees, LeadsTo, AreWrites, HaveValidKeys}
 use Rattle.txn_task.specs.Transactions.{noted}
@@ -100,30 +95,7 @@ agrees_more S reads keys ranges a =
     agrees_fewer S reads (record { keys = reads.keys ++ keys; ranges = reads.ranges ++ ranges })
     (λ rows h. record { keys = keys_fewer rows reads.keys keys h.keys; ranges = ranges_fewer rows reads.ranges ranges h.ranges }) a
 
--- ---- what a range of a directory tells
-empty_mapped : {X Y : Type 0} (f : X → Y) (xs : List X) → [] ≡ map f xs → xs ≡ []
-empty_mapped f [] e = refl
-empty_mapped f (x ∷ xs) e = absurd (cc)
-
-used_mapped : {X Y : Type 0} (f : X → Y) (xs : List X) (y : Y) (ys : List Y) → y ∷ ys ≡ map f xs → (x : X) × (zs : List X) × (xs ≡ x ∷ zs)
-used_mapped f [] y ys e = absurd (cc)
-used_mapped f (x ∷ xs) y ys e = (x, xs, refl)
-
--- a range among the reads
-pub record HasRange (reads : ReadSet) (lo hi : List ℕ) (limit : ℕ) (found : List Row) : Type 0 where
-  pub at : (rows : List Row) → bytes.Agrees rows reads → rows_between rows lo hi limit ≡ found
-
-pub told_dir : (S : TypedRows) (reads : ReadSet) (d limit : ℕ) (found : List Row) → Agrees S reads → d < 2 ^ 36 → HasRange reads (dir_prefix d) (raised (dir_prefix d)) limit found → found ≡ map (spelled_dent d) (take limit (dir_rows S d))
-told_dir S reads d limit found a fits has = sym (has.at a.rows a.agrees) ∙ dir_rows_between a.rows S a.ascending a.spells d limit fits
-
-pub told_empty_dir : (S : TypedRows) (reads : ReadSet) (d n : ℕ) → Agrees S reads → d < 2 ^ 36 → HasRange reads (dir_prefix d) (raised (dir_prefix d)) (suc n) [] → (m : List ℕ) → get S.dents (d, m) ≡ None
-told_empty_dir S reads d n a fits has = empty_range S d n (empty_mapped (spelled_dent d) (take (suc n) (dir_rows S d)) (told_dir S reads d (suc n) [] a fits has))
-
-pub told_used_dir : (S : TypedRows) (reads : ReadSet) (d n : ℕ) (r : Row) (rs : List Row) → Agrees S reads → d < 2 ^ 36 → HasRange reads (dir_prefix d) (raised (dir_prefix d)) (suc n) (r ∷ rs) → (m : List ℕ) × (e : DentRow) × (get S.dents (d, m) ≡ Some e)
-told_used_dir S reads d n r rs a fits has =
-    let some = used_mapped (spelled_dent d) (take (suc n) (dir_rows S d)) r rs (told_dir S reads d (suc n) (r ∷ rs) a fits has) in
-    (some.0.0, some.0.1, used_range S d n some.0 some.1 some.2)
-
+-- ---- a range among the reads
 -- the first range read that passes a test passes it, and rows that agree give it
 pub record IsFound (p : RangeRead → Bool) (reads : List RangeRead) (r : RangeRead) : Type 0 where
   pub passes : p r ≡ true

@@ -2,18 +2,24 @@
 #![tactic(auto)]
 
 mod copies;
+mod first;
 mod list;
 mod messages;
 mod outcome;
+mod pages;
+mod puts;
 mod retry;
 mod txn;
 mod want;
 mod writes;
 
 pub use copies::{copy_key, copy_look};
+pub use first::{WantFirst, want_first, want_range};
 pub use list::{WantList, want_list};
 pub use messages::{Answer, Ask, Asked, Entry, OpStep};
 pub use outcome::{Outcome, Receipt};
+pub use pages::want_pages;
+pub use puts::{kind_of, put_entry, put_inode, put_next};
 pub use retry::Retry;
 pub use txn::Txn;
-pub use want::{Want, WantRange, want_alloc, want_dent, want_inode, want_kept, want_range};
+pub use want::{Want, want_alloc, want_dent, want_inode, want_kept};

@@ -1,19 +1,16 @@
-ghost use Rattle.std.specs.Prelude.{◌≡◌, ◌∷◌, [], IfOk, OnOk};
-ghost use Rattle.key_schema.specs.Ranges.{dir_prefix, raised};
-ghost use Rattle.txn_task.specs.Listing.{AddsEntries, ArePages, IsEntryOf, IsNameOf, IsWantList, next_start, rows_read, start_after, start_behind};
-ghost use Rattle.txn_task.specs.declared.messages.Ask.TheVariants as asks;
+ghost use Rattle.std.specs.Prelude.{◌≡◌, ◌∷◌, [], Some, IfOk, OnOk};
+ghost use Rattle.txn_task.specs.Listing.{AddsEntries, IsEntryOf, IsNameOf, IsWantList};
+ghost use Rattle.txn_task.specs.Pages.{page_rows};
 
 use crate::messages::Ask;
+use crate::pages::{page_behind, rows_of_page, want_pages};
 use crate::txn::Txn;
 use crate::want::found;
-use conflict_sets::{RangeRead, compare};
+use conflict_sets::RangeRead;
 use fs_base::{DirEntry, InodeId, Items, Memory, Row, Text};
 use key_schema::{Key, KeyError, dir_range};
 use row_records::DentRow;
 use std::alloc::Global;
-
-/// How many rows a page of a directory has at most.
-const PAGE: u32 = 128;
 
 /// What is known of a directory's entries.
 #[derive(Debug, Drop)]
@@ -71,77 +68,33 @@ fn add_page(alloc: Global, rows: &[Row], names: &mut Items<DirEntry>) -> Result<
     Ok(())
 }
 
-/// The entries of all rows that were read.
+/// The entries of the pages among the ranges.
 ///
 /// A row that stands for no entry is passed over: no store has it among a directory's rows.
-fn entries_in(alloc: Global, ranges: &[RangeRead]) -> Result<Items<DirEntry>, Memory>
-    ensures { IfOk result (AddsEntries (rows_read ranges.now) []) }
+fn entries_in(
+    alloc: Global,
+    lo: &[u8],
+    hi: &[u8],
+    ranges: &[RangeRead],
+) -> Result<Items<DirEntry>, Memory>
+    ensures { IfOk result (AddsEntries (page_rows hi.now (Some lo.now) ranges.now) []) }
 {
     let mut names = Items::new(alloc);
+    let mut start = Some(Text::from_slice(alloc, lo)?);
     for range in ranges {
-        add_page(alloc, range.rows.as_slice(), &mut names)?;
+        add_page(alloc, rows_of_page(hi, &start, range), &mut names)?;
+        start = page_behind(hi, start, range)?;
     }
     Ok(names)
 }
 
-/// Right after this key. No store gives one before `lo` among the rows from there on; any answer is right then.
-fn start_behind(lo: &[u8], key: &Text) -> Result<Option<Text>, Memory>
-    ensures { IfOk result (λ start. start ≡ start_behind lo.now key.now) }
-{
-    if compare(lo, key.as_slice()).is_gt() {
-        return Ok(None);
-    }
-    let mut next = key.try_clone()?;
-    next.push(0)?;
-    Ok(Some(next))
-}
-
-/// Where the page behind these rows starts. There is none behind fewer rows than a page has.
-fn start_after(lo: &[u8], rows: &[Row]) -> Result<Option<Text>, Memory>
-    ensures { IfOk result (λ start. start ≡ start_after lo.now rows.now) }
-{
-    if rows.len() != PAGE as usize {
-        return Ok(None);
-    }
-    match rows {
-        [.., last] => start_behind(lo, &last.key),
-        [] => Ok(None),
-    }
-}
-
-/// Where the next page of the rows from `lo` on starts; none where all were read.
-fn next_start(alloc: Global, lo: &[u8], ranges: &[RangeRead]) -> Result<Option<Text>, Memory>
-    ensures { IfOk result (λ start. start ≡ next_start lo.now ranges.now) }
-{
-    match ranges {
-        [.., last] => start_after(lo, last.rows.as_slice()),
-        [] => Ok(Some(Text::from_slice(alloc, lo)?)),
-    }
-}
-
-fn next_page(alloc: Global, txn: &Txn, dir: InodeId) -> Result<Option<Text>, Memory>
-    ensures { IfOk result (λ start. start ≡ next_start (dir_prefix dir) txn.now.reads.ranges) }
-{
-    let (lo, _) = dir_range(dir);
-    next_start(alloc, lo.as_slice(), txn.ranges())
-}
-
-fn page_from(alloc: Global, dir: InodeId, lo: Text) -> Result<Ask, Memory>
-    ensures { IfOk result (λ ask. ask ≡ asks.Range lo (raised (dir_prefix dir)) 128) }
-{
-    let (_, hi) = dir_range(dir);
-    let hi = Text::from_slice(alloc, hi.as_slice())?;
-    let limit = PAGE;
-    Ok(Ask::Range { lo, hi, limit })
-}
-
-/// A directory's entries, where the ranges read are pages of it, or the page that is still to be asked for.
+/// A directory's entries, or the page of them that is still to be asked for.
 pub fn want_list(alloc: Global, txn: &Txn, dir: InodeId) -> Result<WantList, Memory>
-    requires { ArePages dir txn.now.reads.ranges }
     ensures { IfOk result (λ want. IsWantList want txn.now.reads dir) }
 {
-    match next_page(alloc, txn, dir)? {
-        Some(lo) => Ok(WantList::Ask(page_from(alloc, dir, lo)?)),
-        None => Ok(WantList::All(entries_in(alloc, txn.ranges())?)),
+    let (lo, hi) = dir_range(dir);
+    match want_pages(alloc, txn, lo.as_slice(), hi.as_slice())? {
+        Some(ask) => Ok(WantList::Ask(ask)),
+        None => Ok(WantList::All(entries_in(alloc, lo.as_slice(), hi.as_slice(), txn.ranges())?)),
     }
 }

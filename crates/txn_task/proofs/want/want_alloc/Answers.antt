@@ -4,17 +4,22 @@ use Rattle.key_schema.specs.declared.key.Key.TheVariants as keys
 use Rattle.row_records.specs.Rows.{alloc_of}
 use Rattle.txn_task.specs.Wanted.{IsReading}
 use Rattle.txn_task.specs.Writes.{read_of}
-use Rattle.txn_task.proofs.TellLaws.{next_never, next_there}
+use Rattle.txn_task.proofs.TellLaws.{next_absent, next_never, next_there}
 use Rattle.txn_task.proofs.want.want_alloc.Goals as goal
+
+pub returns-in-Some-None : goal.returns-in-Some-None
+returns-in-Some-None c =
+    let kept : read_of c.args.txn.now.reads.keys (spelled_key (keys.Alloc c.args.server)) ≡ Some None = search rules in
+    ((None, kept), next_absent c.args.txn.now.reads c.args.server kept)
 
 pub returns-in-None-2 : goal.returns-in-None-2
 returns-in-None-2 c =
     let kept : read_of c.args.txn.now.reads.keys (spelled_key (keys.Alloc c.args.server)) ≡ Some (Some c.in-Some-Some.bytes.now) = search rules in
     let none : IsReading (alloc_of c.in-Some-Some.bytes.now) None = search rules in
-    next_never c.args.txn.now.reads c.args.server c.in-Some-Some.bytes.now kept none
+    ((Some c.in-Some-Some.bytes.now, kept), next_never c.args.txn.now.reads c.args.server c.in-Some-Some.bytes.now kept none)
 
 pub returns : goal.returns
 returns c =
     let kept : read_of c.args.txn.now.reads.keys (spelled_key (keys.Alloc c.args.server)) ≡ Some (Some c.in-Some-Some.bytes.now) = search rules in
     let row : IsReading (alloc_of c.in-Some-Some.bytes.now) (Some c.in-Some.row) = search rules in
-    next_there c.args.txn.now.reads c.args.server c.in-Some-Some.bytes.now c.in-Some.row kept row
+    ((Some c.in-Some-Some.bytes.now, kept), next_there c.args.txn.now.reads c.args.server c.in-Some-Some.bytes.now c.in-Some.row kept row)

@@ -4,17 +4,22 @@ use Rattle.key_schema.specs.declared.key.Key.TheVariants as keys
 use Rattle.row_records.specs.Rows.{dent_of}
 use Rattle.txn_task.specs.Wanted.{IsReading}
 use Rattle.txn_task.specs.Writes.{read_of}
-use Rattle.txn_task.proofs.TellLaws.{dent_never, dent_there}
+use Rattle.txn_task.proofs.TellLaws.{dent_absent, dent_never, dent_there}
 use Rattle.txn_task.proofs.want.want_dent.Goals as goal
+
+pub returns-in-Some-None : goal.returns-in-Some-None
+returns-in-Some-None c =
+    let kept : read_of c.args.txn.now.reads.keys (spelled_key (keys.Dent c.args.dir c.args.name.now)) ≡ Some None = search rules in
+    ((None, kept), dent_absent c.args.txn.now.reads c.args.dir c.args.name.now (search rules) kept)
 
 pub returns-in-None-2 : goal.returns-in-None-2
 returns-in-None-2 c =
     let kept : read_of c.args.txn.now.reads.keys (spelled_key (keys.Dent c.args.dir c.args.name.now)) ≡ Some (Some c.in-Some-Some.bytes.now) = search rules in
     let none : IsReading (dent_of c.in-Some-Some.bytes.now) None = search rules in
-    dent_never c.args.txn.now.reads c.args.dir c.args.name.now c.in-Some-Some.bytes.now (search rules) kept none
+    ((Some c.in-Some-Some.bytes.now, kept), dent_never c.args.txn.now.reads c.args.dir c.args.name.now c.in-Some-Some.bytes.now (search rules) kept none)
 
 pub returns : goal.returns
 returns c =
     let kept : read_of c.args.txn.now.reads.keys (spelled_key (keys.Dent c.args.dir c.args.name.now)) ≡ Some (Some c.in-Some-Some.bytes.now) = search rules in
     let row : IsReading (dent_of c.in-Some-Some.bytes.now) (Some c.in-Some.row) = search rules in
-    dent_there c.args.txn.now.reads c.args.dir c.args.name.now c.in-Some-Some.bytes.now c.in-Some.row (search rules) kept row
+    ((Some c.in-Some-Some.bytes.now, kept), dent_there c.args.txn.now.reads c.args.dir c.args.name.now c.in-Some-Some.bytes.now c.in-Some.row (search rules) kept row)
