@@ -1,57 +1,79 @@
--- What a walk under way may ask for lies in what the walk looks at from its start.
-use Rattle.std.proofs.Common.{◌⊎◌, List, [], ◌∷◌, ◌++◌, sym, subst, inl, inr}
+-- Areas one after another: what was read of them, and which ask is the next.
+use Rattle.std.proofs.Common.{◌≡◌, ◌⊎◌, ℕ, List, [], ◌∷◌, ◌++◌, map, refl, sym, ap, subst, ◌∙◌, inl, inr}
+use Rattle.std.specs.Prelude.{Some, None, IsTrue}
+use Rattle.std.specs.Ordering.{is_le}
+use Rattle.conflict_sets.specs.Keys.{key_cmp}
+use Rattle.conflict_sets.specs.declared.sets.RangeRead.{RangeRead}
 use Rattle.conflict_sets.specs.declared.sets.ReadSet.{ReadSet}
-use Rattle.fs_base.specs.Config.{Settings}
-use Rattle.row_tree.specs.TreeOf.{tree_of}
-use Rattle.row_tree.specs.TypedRows.{TypedRows}
-use Rattle.row_tree.specs.WellFormed.{IsWellFormed}
 use Rattle.tree_model.specs.declared.walk.Walked.{Walked}
 use Rattle.tree_model.specs.Walk.{Visit, Trip}
-use Rattle.txn_task.specs.Agreeing.{Agrees}
+use Rattle.txn_task.specs.Pages.{next_page}
+use Rattle.txn_task.specs.Transactions.{noted}
+use Rattle.txn_task.specs.declared.messages.Answer.{Answer}
+use Rattle.txn_task.specs.declared.messages.Answer.TheVariants as answers
 use Rattle.txn_task.specs.declared.messages.Ask.{Ask}
 use Rattle.txn_task.specs.declared.messages.Ask.TheVariants as asks
-use Rattle.path_walk.specs.declared.walk.Walk.{Walk}
-use Rattle.path_walk.specs.Areas.{Area, IsArea, OneKey, walked_areas, trip_areas, Reaches}
-use Rattle.path_walk.specs.Walks.{trip_of, after_visits, KeepsTrip, HasOutcome, IsWalkAsk}
+use Rattle.txn_task.proofs.MoreLaws.{key_more, first_more, pages_more, pages_done}
+use Rattle.txn_task.proofs.PageRows.{page_inside, key_from}
+use Rattle.path_walk.specs.Areas.{Area, OneKey, FirstRow, Pages, IsRead, AreRead, IsAskOf, IsNextOf, IsArea, IsRangeArea, Reaches, visited, trip_areas}
+use Rattle.path_walk.specs.Walks.{after_visits, AreSeen}
 
-pub area_left : (area : Area) (xs ys : List Area) → IsArea area xs → IsArea area (xs ++ ys)
-area_left area [] ys h = absurd h
-area_left area (x ∷ xs) ys (inl e) = inl e
-area_left area (x ∷ xs) ys (inr h) = inr (area_left area xs ys h)
+-- ---- one after another
 
-pub area_right : (area : Area) (xs ys : List Area) → IsArea area ys → IsArea area (xs ++ ys)
-area_right area [] ys h = h
-area_right area (x ∷ xs) ys h = inr (area_right area xs ys h)
+pub read_both : (reads : ReadSet) (xs ys : List Area) → AreRead reads xs → AreRead reads ys → AreRead reads (xs ++ ys)
+read_both reads [] ys first second = second
+read_both reads (x ∷ xs) ys first second = (first.0, read_both reads xs ys first.1 second)
 
-pub area_either : (area : Area) (xs ys : List Area) → IsArea area (xs ++ ys) → IsArea area xs ⊎ IsArea area ys
-area_either area [] ys h = inr h
-area_either area (x ∷ xs) ys (inl e) = inl (inl e)
-area_either area (x ∷ xs) ys (inr h) = elim (area_either area xs ys h) [ inl there ↦ inl (inr there) | inr there ↦ inr there ]
+pub next_behind : (reads : ReadSet) (seen areas : List Area) (ask : Ask) → AreRead reads seen → IsNextOf reads areas ask → IsNextOf reads (seen ++ areas) ask
+next_behind reads [] areas ask read next = next
+next_behind reads (area ∷ seen) areas ask read next = inr (read.0, next_behind reads seen areas ask read.1 next)
 
-module _ (at : Walked → List Area) where
-  area_after : (area : Area) (visits : List Visit) (trip : Trip) → IsArea area (trip_areas trip at) → IsArea area (trip_areas (after_visits visits trip) at)
-  area_after area [] trip h = h
-  area_after area (visit ∷ visits) trip h = inr (area_after area visits trip h)
+pub append_twice : (xs ys zs : List Area) → (xs ++ ys) ++ zs ≡ xs ++ (ys ++ zs)
+append_twice [] ys zs = refl
+append_twice (x ∷ xs) ys zs = ap (λ (l : List Area). x ∷ l) (append_twice xs ys zs)
 
-  module _ (w : Walk) (reads : ReadSet) where
-    -- where the walk has come, the areas of the rest are areas of the whole
-    pub keeps_areas : (new : Walk) → KeepsTrip w new reads → (C : Settings) (S : TypedRows) → IsWellFormed C S → Agrees S reads → (area : Area) → IsArea area (trip_areas (trip_of new (tree_of S)) at) → IsArea area (trip_areas (trip_of w (tree_of S)) at)
-    keeps_areas new keeps C S good agrees area h =
-        let k = keeps C S good agrees in
-        subst (λ (trip : Trip). IsArea area (trip_areas trip at)) (sym k.1) (area_after area k.0 (trip_of new (tree_of S)) h)
+-- ---- walks
 
-    -- what is read at the walk's end
-    pub end_area : (end : Walked) → HasOutcome w reads end → (C : Settings) (S : TypedRows) → IsWellFormed C S → Agrees S reads → (area : Area) → IsArea area (at end) → IsArea area (trip_areas (trip_of w (tree_of S)) at)
-    end_area end has C S good agrees area h =
-        area_right area (walked_areas (trip_of w (tree_of S))) (at (trip_of w (tree_of S)).end) (subst (λ (x : Walked). IsArea area (at x)) (sym (has C S good agrees)) h)
+pub seen_read : (reads : ReadSet) (visits : List Visit) → AreSeen reads visits → AreRead reads (map visited visits)
+seen_read reads [] seen = tt
+seen_read reads (visit ∷ visits) seen = (seen.0, seen_read reads visits seen.1)
 
-    -- an ask of the walk
-    pub walk_reaches : (ask : Ask) → IsWalkAsk w reads ask → (C : Settings) (S : TypedRows) → IsWellFormed C S → Agrees S reads → Reaches (trip_areas (trip_of w (tree_of S)) at) ask
-    walk_reaches (asks.Get key) asked C S good agrees = area_left (OneKey key) (walked_areas (trip_of w (tree_of S))) (at (trip_of w (tree_of S)).end) (asked.1 C S good agrees)
-    walk_reaches asks.Begin asked C S good agrees = absurd asked
-    walk_reaches (asks.Range lo hi limit) asked C S good agrees = absurd asked
-    walk_reaches (asks.Commit entry) asked C S good agrees = absurd asked
-    walk_reaches (asks.Query node inode) asked C S good agrees = absurd asked
-    walk_reaches (asks.SetEnd node inode keep rest holds) asked C S good agrees = absurd asked
-    walk_reaches (asks.Remove node inode version) asked C S good agrees = absurd asked
-    walk_reaches asks.Done asked C S good agrees = absurd asked
+pub areas_after : (at : Walked → List Area) (visits : List Visit) (trip : Trip) → trip_areas (after_visits visits trip) at ≡ map visited visits ++ trip_areas trip at
+areas_after at [] trip = refl
+areas_after at (visit ∷ visits) trip = ap (λ (l : List Area). visited visit ∷ l) (areas_after at visits trip)
+
+-- ---- what was read stays read
+
+module _ (reads : ReadSet) where
+  read_more : (ask : Ask) (answer : Answer) (area : Area) → IsRead reads area → IsRead (noted reads ask answer) area
+  read_more (asks.Get key) (answers.Got got) (OneKey one) h = (h.0, key_more reads.keys _ _ h.0 h.1)
+  read_more (asks.Get key) (answers.Got got) (FirstRow lo hi) h = h
+  read_more (asks.Get key) (answers.Got got) (Pages lo hi) h = h
+  read_more (asks.Range from to limit) (answers.Rows rows) (OneKey one) h = h
+  read_more (asks.Range from to limit) (answers.Rows rows) (FirstRow lo hi) h = (h.0, first_more lo hi reads.ranges _ h.0 h.1)
+  read_more (asks.Range from to limit) (answers.Rows rows) (Pages lo hi) h =
+      let more : List RangeRead = record { lo = from; hi = to; limit = limit; rows = rows } ∷ [] in
+      pages_more hi (Some lo) reads.ranges more ∙ (ap (λ start. next_page hi start more) h ∙ pages_done hi more)
+  read_more ask answer area h = h
+
+  pub are_read_more : (ask : Ask) (answer : Answer) (areas : List Area) → AreRead reads areas → AreRead (noted reads ask answer) areas
+  are_read_more ask answer [] h = tt
+  are_read_more ask answer (area ∷ areas) h = (read_more ask answer area h.0, are_read_more ask answer areas h.1)
+
+-- ---- what is asked lies in the areas
+
+reaches_later : (area : Area) (areas : List Area) (ask : Ask) → Reaches areas ask → Reaches (area ∷ areas) ask
+reaches_later area areas (asks.Get key) h = inr h
+reaches_later area areas (asks.Range from to limit) h = (h.0, h.1, elim h.2 [ inl first ↦ inl (inr first) | inr pages ↦ inr (inr pages) ], h.3)
+reaches_later area areas ask h = tt
+
+asks_reach : (reads : ReadSet) (area : Area) (areas : List Area) (ask : Ask) → IsAskOf reads area ask → Reaches (area ∷ areas) ask
+asks_reach reads (OneKey key) areas (asks.Get other) h = inl (ap OneKey h.0)
+asks_reach reads (FirstRow lo hi) areas (asks.Range from to limit) h = (lo, hi, inl (inl refl), (subst (λ x. IsTrue (is_le (key_cmp lo x))) (sym h.0) (key_from lo), h.1))
+asks_reach reads (Pages lo hi) areas (asks.Range from to limit) h = (lo, hi, inr (inl refl), (page_inside hi lo from reads.ranges h.2, h.0))
+asks_reach reads area areas ask h = absurd h
+
+pub next_reaches : (reads : ReadSet) (areas : List Area) (ask : Ask) → IsNextOf reads areas ask → Reaches areas ask
+next_reaches reads [] ask h = absurd h
+next_reaches reads (area ∷ areas) ask (inl here) = asks_reach reads area areas ask here
+next_reaches reads (area ∷ areas) ask (inr later) = reaches_later area areas ask (next_reaches reads areas ask later.1)

@@ -51,8 +51,8 @@ use Rattle.txn_task.specs.declared.messages.Asked.{Asked}
 use Rattle.txn_task.specs.declared.messages.Entry.{Entry}
 use Rattle.txn_task.proofs.TxnLaws.{are_writes_put, leads_none, leads_put}
 use Rattle.txn_task.proofs.WriteLaws.{written_at-set_write}
-use Rattle.path_walk.specs.Owed.{IsOpCommit, LeavesKept, KeepsEffect, IsKeptBefore}
-use Rattle.path_walk.specs.Sound.{IsSoundEntry, ChangesRow, kept_value}
+use Rattle.path_walk.specs.Owed.{IsOpCommit, KeepsEffect, IsKeptBefore}
+use Rattle.path_walk.specs.Sound.{IsSoundEntry, WritesChange, kept_value}
 use Rattle.path_walk.proofs.WholeLaws.{whole_update, kept_in}
 
 -- ---- another value than stands there
@@ -94,7 +94,7 @@ kept_fits q reply from small fits =
 
 -- ---- the commit
 
-some_same : (a b : Option (List ℕ)) → Some a ≡ Some b → a ≡ b
+pub some_same : (a b : Option (List ℕ)) → Some a ≡ Some b → a ≡ b
 some_same a b e = cc
 
 abbrev number : ℕ → Option Value → ℕ
@@ -106,7 +106,7 @@ not_kept : (q : Request) (reply : Reply) (o : Option KeptRow) → MatchOption o 
 not_kept q reply None before e = absurd (cc)
 not_kept q reply (Some row) before e = let same : row.number ≡ q.number = ap (number 0) e in omega arith
 
-apart : (k l : Key) → IsSpellable k → IsSpellable l → k ≢ l → is_eq (key_cmp (spelled_key k) (spelled_key l)) ≡ false
+pub apart : (k l : Key) → IsSpellable k → IsSpellable l → k ≢ l → is_eq (key_cmp (spelled_key k) (spelled_key l)) ≡ false
 apart k l a b n = by_place _ (spelled_key k) (spelled_key l)
     (λ e. rw e refl)
     (λ e. absurd (n (one_key_each k l a b (key_exact (spelled_key k) (spelled_key l) e))))
@@ -148,28 +148,18 @@ module _ (C : Settings) (q : Request) (f : Tree → Effect) (t : Transaction) (r
     written : (key : List ℕ) → written_at all key ≡ cond (is_eq (key_cmp key own)) (Some (Some bytes_kept)) (written_at t.writes key)
     written key = written_at-set_write own key (Some bytes_kept) t.writes
 
-    none_written : (c : ClientId) → c.0 < 2 ^ 128 → (v : Option (List ℕ)) → written_at t.writes (spelled_key (keys.Idem c)) ≡ Some v → ⊥
-    none_written c l v is = let e : None ≡ Some v = sym (made.kept.no_kept c l) ∙ is in cc
-
-    kept_changes : (c : ClientId) → c.0 < 2 ^ 128 → ChangesRow C t.reads all (keys.Idem c)
-    kept_changes c l v is rows T asc tree agrees e =
-        let key = spelled_key (keys.Idem c) in
-        let at : cond (is_eq (key_cmp key own)) (Some (Some bytes_kept)) (written_at t.writes key) ≡ Some v = sym (written key) ∙ is in
-        by_place ⊥ key own
-        (λ o. none_written c l v (ap (λ x. cond (is_eq x) (Some (Some bytes_kept)) (written_at t.writes key)) (sym o) ∙ at))
+    all_change : WritesChange C t.reads all
+    all_change key looked valid v is rows T asc tree agrees e =
+        let bytes_of : List ℕ = spelled_key key in
+        let at : cond (is_eq (key_cmp bytes_of own)) (Some (Some bytes_kept)) (written_at t.writes bytes_of) ≡ Some v = sym (written bytes_of) ∙ is in
+        by_place ⊥ bytes_of own
+        (λ o. made.changes key looked valid v (ap (λ x. cond (is_eq x) (Some (Some bytes_kept)) (written_at t.writes bytes_of)) (sym o) ∙ at) rows T asc tree agrees e)
         (λ o.
-        let value : Some bytes_kept ≡ v = some_same (Some bytes_kept) v (ap (λ x. cond (is_eq x) (Some (Some bytes_kept)) (written_at t.writes key)) (sym o) ∙ at) in
+        let value : Some bytes_kept ≡ v = some_same (Some bytes_kept) v (ap (λ x. cond (is_eq x) (Some (Some bytes_kept)) (written_at t.writes bytes_of)) (sym o) ∙ at) in
         write_changes rows tree.0 (keys.Idem q.client) (Some (kept_value q reply)) tree.1 client (refl, range)
         (not_kept q reply (get (tree.0).kept q.client.0) (before tree.0 (agreeing rows T asc tree agrees)))
-        (ap (value_at_key rows) (sym (key_exact key own o)) ∙ (e ∙ sym value)))
-        (λ o. none_written c l v (ap (λ x. cond (is_eq x) (Some (Some bytes_kept)) (written_at t.writes key)) (sym o) ∙ at))
-
-    doomed_changes : (id : ℕ) → id < 2 ^ 36 → ChangesRow C t.reads all (keys.Gc id)
-    doomed_changes id l v is rows T asc tree agrees e =
-        let key = spelled_key (keys.Gc id) in
-        let other : is_eq (key_cmp key own) ≡ false = apart (keys.Gc id) (keys.Idem q.client) (spellable (keys.Gc id) l) client (λ p. absurd (cc)) in
-        let mine = made.kept.doomed id l v (sym (written key ∙ ap (λ b. cond b (Some (Some bytes_kept)) (written_at t.writes key)) other) ∙ is) in
-        write_changes rows tree.0 (keys.Gc id) mine.0 tree.1 l mine.2 (mine.3 tree.0 tree.2 (agreeing rows T asc tree agrees)) (e ∙ mine.1)
+        (ap (value_at_key rows) (sym (key_exact bytes_of own o)) ∙ (e ∙ sym value)))
+        (λ o. made.changes key looked valid v (ap (λ x. cond (is_eq x) (Some (Some bytes_kept)) (written_at t.writes bytes_of)) (sym o) ∙ at) rows T asc tree agrees e)
 
     -- a transaction with these writes is a sound entry
     pub sound_entry : (writes : WriteSet) → writes.writes ≡ set_write (spelled_key (keys.Idem q.client)) (Some (spelled_value (kept_value q reply))) t.writes → IsSoundEntry C (record { request = q; reply = reply; asked = asked; reads = t.reads; writes = writes })
@@ -179,8 +169,7 @@ module _ (C : Settings) (q : Request) (f : Tree → Effect) (t : Transaction) (r
       fresh = fresh;
       valid = subst HaveValidKeys (sym is) (are_writes_put (keys.Idem q.client) (Some bytes_kept) t.writes client made.writes).valid;
       keeps = ap (λ ws. written_at ws own) is ∙ (written own ∙ ap (λ o. cond (is_eq o) (Some (Some bytes_kept)) (written_at t.writes own)) (key_self own));
-      kept = λ c l. subst (λ ws. ChangesRow C t.reads ws (keys.Idem c)) (sym is) (kept_changes c l);
-      doomed = λ id l. subst (λ ws. ChangesRow C t.reads ws (keys.Gc id)) (sym is) (doomed_changes id l);
+      changes = subst (WritesChange C t.reads) (sym is) all_change;
       update = update;
       none_asked = made.none_asked;
     }
@@ -189,64 +178,3 @@ module _ (C : Settings) (q : Request) (f : Tree → Effect) (t : Transaction) (r
 
 pub sound_keeps_good : (C : Settings) (e : Entry) (rows : List Row) → IsAscending rows → IsSoundEntry C e → AreWellFormed C rows → bytes.Agrees rows e.reads → AreWellFormed C (with_writes rows e.writes.writes)
 sound_keeps_good C e rows asc sound good agrees = let made = sound.acts rows good.0 asc good.1 agrees in (made.0, made.1)
-
--- ---- puts
-
--- a put of another key writes no kept reply and no file in deletion
-pub leaves_kept_none : (C : Settings) (reads : ReadSet) → LeavesKept C reads []
-leaves_kept_none C reads = record { no_kept = λ client l. refl; doomed = λ id l v is. never_written v is }
-  where
-    never_written : {P : Type 0} (v : Option (List ℕ)) → None ≡ Some v → P
-    never_written v is = absurd (cc)
-
-pub leaves_kept_put : (C : Settings) (reads : ReadSet) (k : Key) (v : Option (List ℕ)) (writes : List Write) → IsSpellable k → ((client : ClientId) → keys.Idem client ≢ k) → ((id : ℕ) → keys.Gc id ≢ k)
-    → LeavesKept C reads writes → LeavesKept C reads (set_write (spelled_key k) v writes)
-leaves_kept_put C reads k v writes fits no_client no_file leaves =
-    record {
-      no_kept = λ client l. other (keys.Idem client) l (no_client client) ∙ leaves.no_kept client l;
-      doomed = λ id l w is. leaves.doomed id l w (sym (other (keys.Gc id) (spellable (keys.Gc id) l) (no_file id)) ∙ is);
-    }
-  where
-    other : (q : Key) → IsSpellable q → q ≢ k → written_at (set_write (spelled_key k) v writes) (spelled_key q) ≡ written_at writes (spelled_key q)
-    other q small n = written_at-set_write (spelled_key k) (spelled_key q) v writes ∙ ap (λ b. cond b (Some v) (written_at writes (spelled_key q))) (apart q k small fits n)
-
--- an inode, its entry and the server's next number, put in this order where nothing was written
-pub leads_node : (S : TypedRows) (next server dir : ℕ) (name : List ℕ) (row : InodeRow) (inode entry number : List ℕ) (writes : List Write)
-    → writes ≡ [] → next_at S.next server ≡ next → inode ≡ spelled_inode row → entry ≡ spelled_dent (record { inode = id_of next server; kind = kind_of row.part }) → number ≡ spelled_alloc (record { next = next + 1 })
-    → IsValidKey (keys.Inode (id_of next server)) → IsValidKey (keys.Dent dir name) → IsValidKey (keys.Alloc server)
-    → IsValue (InodeValue row) → IsValue (DentValue (record { inode = id_of next server; kind = kind_of row.part })) → IsValue (AllocValue (next + 1))
-    → LeadsTo (set_write (spelled_key (keys.Alloc server)) (Some number) (set_write (spelled_key (keys.Dent dir name)) (Some entry) (set_write (spelled_key (keys.Inode (id_of next server))) (Some inode) writes))) S (with_node S server dir name row)
-unfolding spelled_value
-leads_node S next server dir name row inode entry number writes none is at_inode at_entry at_number a b c x y z =
-    subst (λ k. LeadsTo (set_write (spelled_key (keys.Alloc server)) (Some number) (set_write (spelled_key (keys.Dent dir name)) (Some entry) (set_write (spelled_key (keys.Inode (id_of next server))) (Some inode) writes))) S (node_at k)) (sym is)
-    (subst (λ (ws : List Write). LeadsTo (puts inode entry number ws) S (node_at next)) (sym none)
-    (subst (λ v. LeadsTo (puts v entry number []) S (node_at next)) (sym at_inode)
-    (subst (λ v. LeadsTo (puts (spelled_inode row) v number []) S (node_at next)) (sym at_entry)
-    (subst (λ v. LeadsTo (puts (spelled_inode row) (spelled_dent new_entry) v []) S (node_at next)) (sym at_number)
-    (leads_put _ S _ (keys.Alloc server) (Some (AllocValue (next + 1)))
-    (leads_put _ S _ (keys.Dent dir name) (Some (DentValue new_entry))
-    (leads_put [] S S (keys.Inode (id_of next server)) (Some (InodeValue row)) (leads_none S) a (refl, x))
-    b (refl, y))
-    c (refl, z))))))
-  where
-    new_entry : DentRow
-    new_entry = record { inode = id_of next server; kind = kind_of row.part }
-
-    node_at : ℕ → TypedRows
-    node_at k = record S {
-      inodes = insert S.inodes (id_of k server) row;
-      dents = insert S.dents (dir, name) (record { inode = id_of k server; kind = kind_of row.part });
-      next = insert S.next server (k + 1);
-    }
-
-    puts : List ℕ → List ℕ → List ℕ → List Write → List Write
-    puts i e n ws = set_write (spelled_key (keys.Alloc server)) (Some n) (set_write (spelled_key (keys.Dent dir name)) (Some e) (set_write (spelled_key (keys.Inode (id_of next server))) (Some i) ws))
-
--- an inode's row, where nothing was written
-pub leads_row : (S : TypedRows) (id : ℕ) (row : InodeRow) (bytes : List ℕ) (writes : List Write) → writes ≡ [] → bytes ≡ spelled_inode row → id < 2 ^ 36 → IsValue (InodeValue row)
-    → LeadsTo (set_write (spelled_key (keys.Inode id)) (Some bytes) writes) S (with_row S id row)
-unfolding spelled_value
-leads_row S id row bytes writes none at small fits =
-    subst (λ (ws : List Write). LeadsTo (set_write (spelled_key (keys.Inode id)) (Some bytes) ws) S (with_row S id row)) (sym none)
-    (subst (λ b. LeadsTo (set_write (spelled_key (keys.Inode id)) (Some b) []) S (with_row S id row)) (sym at)
-    (leads_put [] S S (keys.Inode id) (Some (InodeValue row)) (leads_none S) small (refl, fits)))

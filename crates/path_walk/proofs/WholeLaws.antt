@@ -1,5 +1,5 @@
 -- A call with its kept reply: what is told without a commit, and what a commit makes.
-use Rattle.std.proofs.Common.{◌≡◌, ℕ, ◌<◌, ◌^◌, ◌==◌, nat_lt, true, false, cond, List, refl, sym, ap, subst, ◌∙◌, arith, ne_eqb, eq-eqb, le-ltb, lt-ltb, MatchOption}
+use Rattle.std.proofs.Common.{◌≡◌, ℕ, ◌<◌, ◌≤◌, ◌^◌, ◌==◌, nat_lt, true, false, cond, List, [], ◌∷◌, refl, sym, ap, subst, ◌∙◌, arith, ne_eqb, eq-eqb, le-ltb, lt-ltb, MatchOption}
 use Rattle.std.specs.Prelude.{Option, Some, None, ⊤}
 use Rattle.std.specs.Option.{option_map}
 use Rattle.std.specs.FinMap.{get}
@@ -26,9 +26,12 @@ use Rattle.tree_model.specs.Effects.{Effect, at_length, settled_by}
 use Rattle.tree_model.specs.Tree.{Tree}
 use Rattle.tree_model.proofs.ApplyLaws.{apply_query, apply_update, update_new, settle_at}
 use Rattle.txn_task.specs.Agreeing.{Agrees, LeadsTo}
+use Rattle.txn_task.specs.Wanted.{IsKeyRead}
 use Rattle.txn_task.specs.Writes.{set_write}
 use Rattle.txn_task.proofs.TxnLaws.{leads_put}
-use Rattle.path_walk.specs.Owed.{IsJustified, IsSoundEffect, KeepsEffect, IsKeptBefore}
+use Rattle.path_walk.specs.Areas.{Area, OneKey, AreRead}
+use Rattle.path_walk.specs.Footprint.{call_areas, footprint, if_new}
+use Rattle.path_walk.specs.Owed.{HasRead, IsJustified, IsSoundEffect, KeepsAreas, KeepsEffect, IsKeptBefore}
 use Rattle.path_walk.specs.Sound.{IsJustifiedReply, kept_value}
 
 -- ---- kept replies in typed rows
@@ -104,3 +107,31 @@ whole_update C q f reads writes reply update same sound before client range S go
           ∙ (ap (settle (tree_of S) q length) (ap (at_length length) (sym (same S good agrees)) ∙ made.3)
           ∙ ap (λ (t : Tree). (t, reply)) (sym (tree_with_kept made.0 q.client.0 row)))),
     )
+
+-- ---- what an update reads
+
+by_kept : (C : Settings) (T : Tree) (q : Request) → is_query q.call ≡ false → footprint C T q ≡ OneKey (keys.Idem q.client) ∷ if_new (get T.kept q.client.0) q.number (call_areas C T q.server q.call)
+by_kept C T q update =
+    let areas : List Area = call_areas C T q.server q.call in
+    ap (λ b. cond b areas (OneKey (keys.Idem q.client) ∷ if_new (get T.kept q.client.0) q.number areas)) update
+
+newer : (o : Option KeptReply) (number : ℕ) (areas : List Area) → MatchOption o ⊤ (λ kept. kept.number < number) → if_new o number areas ≡ areas
+newer None number areas before = refl
+newer (Some kept) number areas before = ap (λ b. cond b areas []) (lt-ltb kept.number number before)
+
+-- after its client's kept reply, where that is earlier, what the call reads
+pub update_reads : (C : Settings) (q : Request) (reads : ReadSet) → is_query q.call ≡ false → IsKeptBefore reads q → IsKeyRead reads (keys.Idem q.client) → KeepsAreas C (λ T. footprint C T q) (λ T. call_areas C T q.server q.call) reads
+update_reads C q reads update before read S good agrees = (
+  OneKey (keys.Idem q.client) ∷ [],
+  (read, tt),
+  by_kept C (tree_of S) q update ∙ ap (λ (l : List Area). OneKey (keys.Idem q.client) ∷ l) (newer (get (tree_of S).kept q.client.0) q.number (call_areas C (tree_of S) q.server q.call) (kept_in S q (before S agrees))),
+)
+
+-- and nothing more where it isn't
+pub kept_reads_all : (C : Settings) (q : Request) (reads : ReadSet) (row : KeptRow) → is_query q.call ≡ false → ((S : TypedRows) → Agrees S reads → get S.kept q.client.0 ≡ Some row) → q.number ≤ row.number → IsKeyRead reads (keys.Idem q.client)
+    → HasRead C (λ T. footprint C T q) reads
+kept_reads_all C q reads row update is late read S good agrees =
+    let areas : List Area = call_areas C (tree_of S) q.server q.call in
+    subst (AreRead reads)
+    (sym (by_kept C (tree_of S) q update ∙ ap (λ (o : Option KeptReply). OneKey (keys.Idem q.client) ∷ if_new o q.number areas) (kept_is S q.client.0 (Some row) (is S agrees)) ∙ ap (λ b. OneKey (keys.Idem q.client) ∷ cond b areas []) (le-ltb row.number q.number late)))
+    (read, tt)

@@ -1,5 +1,7 @@
--- The keys and ranges that a call may read in a tree.
-use Rattle.std.specs.Prelude.{ℕ, List, [], ◌∷◌, Result, Ok, Err, if◌then◌else◌}
+-- What a call reads in a tree, in the order of its asks: the list ends where the call is decided.
+use Rattle.std.specs.Prelude.{ℕ, nat_lt, List, [], ◌∷◌, Option, Some, None, Result, Ok, Err, if◌then◌else◌}
+use Rattle.std.specs.FinMap.{get}
+use Rattle.fs_base.specs.Config.{Settings}
 use Rattle.fs_base.specs.declared.call.Call.{Call}
 use Rattle.fs_base.specs.declared.call.Call.TheVariants as calls
 use Rattle.fs_base.specs.declared.call.Place.{Place}
@@ -9,21 +11,39 @@ use Rattle.fs_base.specs.declared.kind.Kind.TheVariants as kinds
 use Rattle.fs_base.specs.declared.path.Path.{Path}
 use Rattle.fs_base.specs.Paths.{path_of}
 use Rattle.key_schema.specs.declared.key.Key.TheVariants as keys
+use Rattle.tree_model.specs.declared.kept.KeptReply.{KeptReply}
+use Rattle.tree_model.specs.declared.new_node.NewNode.{NewNode}
+use Rattle.tree_model.specs.declared.node.Node.{Node}
+use Rattle.tree_model.specs.declared.node.NodePart.{NodePart}
+use Rattle.tree_model.specs.declared.node.NodePart.TheVariants.{Dir, File, Link}
 use Rattle.tree_model.specs.declared.walk.WalkEnd.{WalkEnd}
 use Rattle.tree_model.specs.declared.walk.WalkEnd.TheVariants.{Follow, NoFollow, Parent}
 use Rattle.tree_model.specs.declared.walk.Walked.{Walked}
-use Rattle.tree_model.specs.declared.walk.Walked.TheVariants.{At, AtParent}
+use Rattle.tree_model.specs.declared.walk.Walked.TheVariants.{At, AtParent, Stopped}
 use Rattle.tree_model.specs.Calls.{is_query}
+use Rattle.tree_model.specs.Creating.{new_dir, new_file, new_link}
 use Rattle.tree_model.specs.Tree.{Tree}
-use Rattle.tree_model.specs.Walk.{travel}
-use Rattle.path_walk.specs.Areas.{Area, OneKey, Entries, trip_areas}
+use Rattle.tree_model.specs.Walk.{Trip, stay, travel}
+use Rattle.path_walk.specs.Areas.{Area, OneKey, entries, trip_areas}
+use Rattle.path_walk.specs.Faults.{node_fault}
 
-abbrev pub on_words : Result Path Code → (Path → List Area) → List Area
-on_words (Err code) areas = []
-on_words (Ok path) areas = areas path
+-- ---- the way of a call
 
-abbrev pub along : Tree → Place → WalkEnd → (Walked → List Area) → List Area
-along T place end at = on_words (path_of place.text) (λ path. trip_areas (travel T place.base path end) at)
+-- words that are refused end it before it looks at anything
+abbrev pub unless_fault : Option Code → Trip → Trip
+unless_fault None trip = trip
+unless_fault (Some code) trip = stay (Stopped code)
+
+abbrev pub on_words : Result Path Code → (Path → Trip) → Trip
+on_words (Err code) trip = stay (Stopped code)
+on_words (Ok path) trip = trip path
+
+-- the place's fault, else the call's other one, else the walk of the place
+abbrev pub trip_from : Place → WalkEnd → Option Code → Tree → Trip
+trip_from place end fault T = on_words (path_of place.text) (λ path. unless_fault fault (travel T place.base path end))
+
+abbrev pub along : Tree → Place → WalkEnd → Option Code → (Walked → List Area) → List Area
+along T place end fault at = trip_areas (trip_from place end fault T) at
 
 -- ---- what is read where a walk ends
 
@@ -39,27 +59,53 @@ link_at (At id kinds.Link) = OneKey (keys.Inode id) ∷ []
 link_at _ = []
 
 abbrev pub entries_at : Walked → List Area
-entries_at (At id kinds.Dir) = Entries id ∷ []
+entries_at (At id kinds.Dir) = entries id ∷ []
 entries_at _ = []
 
+-- more is read in a directory, and where no entry stands
+abbrev pub in_part : NodePart → List Area → List Area
+in_part (Dir layout) areas = areas
+in_part (File length truncs layout hint) areas = []
+in_part (Link target) areas = []
+
+abbrev pub in_dir : Option Node → List Area → List Area
+in_dir None areas = []
+in_dir (Some node) areas = in_part node.part areas
+
+abbrev pub if_free : Option ℕ → List Area → List Area
+if_free None areas = areas
+if_free (Some id) areas = []
+
 -- the directory, the name in it, and the server's next number
-abbrev pub child_at : ℕ → Walked → List Area
-child_at server (AtParent dir name) = OneKey (keys.Inode dir) ∷ OneKey (keys.Dent dir name) ∷ OneKey (keys.Alloc server) ∷ []
-child_at server _ = []
+abbrev pub child_at : ℕ → Tree → Walked → List Area
+child_at server T (AtParent dir name) =
+    OneKey (keys.Inode dir) ∷ in_dir (get T.nodes dir) (OneKey (keys.Dent dir name) ∷ if_free (get T.entries (dir, name)) (OneKey (keys.Alloc server) ∷ []))
+child_at server T _ = []
+
+abbrev pub makes : Settings → Tree → ℕ → Place → NewNode → List Area
+makes C T server place node = along T place Parent (node_fault C node) (child_at server T)
 
 -- ---- the calls
 
-abbrev pub call_areas : Tree → ℕ → Call → List Area
-call_areas T server (calls.Lookup place) = along T place NoFollow nothing_at
-call_areas T server (calls.Stat place) = along T place Follow inode_at
-call_areas T server (calls.List place) = along T place Follow entries_at
-call_areas T server (calls.Readlink place) = along T place NoFollow link_at
-call_areas T server (calls.Mkdir place mode layout) = along T place Parent (child_at server)
-call_areas T server (calls.Create place mode layout) = along T place Parent (child_at server)
-call_areas T server (calls.Symlink place target) = along T place Parent (child_at server)
-call_areas T server (calls.Setattr place changes) = along T place Follow inode_at
-call_areas T server _ = []
+abbrev pub call_areas : Settings → Tree → ℕ → Call → List Area
+call_areas C T server (calls.Lookup place) = along T place NoFollow None nothing_at
+call_areas C T server (calls.Stat place) = along T place Follow None inode_at
+call_areas C T server (calls.List place) = along T place Follow None entries_at
+call_areas C T server (calls.Readlink place) = along T place NoFollow None link_at
+call_areas C T server (calls.Mkdir place mode layout) = makes C T server place (new_dir mode layout)
+call_areas C T server (calls.Create place mode layout) = makes C T server place (new_file mode layout)
+call_areas C T server (calls.Symlink place target) = makes C T server place (new_link target)
+call_areas C T server (calls.Setattr place changes) = along T place Follow None inode_at
+call_areas C T server _ = []
 
--- an update reads its client's kept reply too
-abbrev pub footprint : Tree → Request → List Area
-footprint T q = if is_query q.call then call_areas T q.server q.call else OneKey (keys.Idem q.client) ∷ call_areas T q.server q.call
+-- a kept reply whose number isn't smaller decides
+abbrev pub if_new : Option KeptReply → ℕ → List Area → List Area
+if_new None number areas = areas
+if_new (Some kept) number areas = if nat_lt kept.number number then areas else []
+
+-- an update reads its client's kept reply first
+abbrev pub footprint : Settings → Tree → Request → List Area
+footprint C T q =
+    if is_query q.call
+    then call_areas C T q.server q.call
+    else OneKey (keys.Idem q.client) ∷ if_new (get T.kept q.client.0) q.number (call_areas C T q.server q.call)

@@ -1,6 +1,9 @@
 pub mod Areas
+pub mod Faults
 pub mod Footprint
 pub mod Owed
+pub mod Puts
 pub mod Requests
 pub mod Sound
+pub mod Stages
 pub mod Walks

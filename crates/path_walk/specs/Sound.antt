@@ -1,5 +1,5 @@
 -- What an entry of the journal owes, and what a reply that changes nothing owes, over rows of bytes.
-use Rattle.std.specs.Prelude.{◌≡◌, ◌≢◌, ◌<◌, ◌^◌, ℕ, false, List, [], Option, Some, MatchOption, ⊤}
+use Rattle.std.specs.Prelude.{◌≡◌, ◌≢◌, ◌<◌, ℕ, false, List, [], Option, Some, MatchOption, ⊤}
 use Rattle.std.specs.FinMap.{get}
 use Rattle.conflict_sets.specs.Reads as bytes
 use Rattle.conflict_sets.specs.Rows.{IsAscending, value_at_key, with_writes}
@@ -7,10 +7,9 @@ use Rattle.conflict_sets.specs.declared.sets.ReadSet.{ReadSet}
 use Rattle.conflict_sets.specs.declared.sets.Write.{Write}
 use Rattle.fs_base.specs.Config.{Settings}
 use Rattle.fs_base.specs.declared.call.Request.{Request}
-use Rattle.fs_base.specs.declared.ids.ClientId.{ClientId}
 use Rattle.fs_base.specs.declared.reply.Reply.{Reply}
 use Rattle.fs_base.specs.declared.row.Row.{Row}
-use Rattle.key_schema.specs.Keys.{spelled_key}
+use Rattle.key_schema.specs.Keys.{spelled_key, IsValidKey}
 use Rattle.key_schema.specs.declared.key.Key.{Key}
 use Rattle.key_schema.specs.declared.key.Key.TheVariants as keys
 use Rattle.row_tree.specs.HasTree.{HasTree}
@@ -34,6 +33,15 @@ abbrev pub ChangesRow : Settings → ReadSet → List Write → Key → Type 0
 ChangesRow C reads writes key =
     (v : Option (List ℕ)) → written_at writes (spelled_key key) ≡ Some v → (rows : List Row) (T : Tree) → IsAscending rows → HasTree C rows T → bytes.Agrees rows reads → value_at_key rows (spelled_key key) ≢ v
 
+-- a session's row may be written without a look at it
+abbrev pub IsLookedAt : Key → Type 0
+IsLookedAt (keys.Session inode client number) = ⊥
+IsLookedAt key = Unit {0}
+
+-- each other row that is written changes
+abbrev pub WritesChange : Settings → ReadSet → List Write → Type 0
+WritesChange C reads writes = (key : Key) → IsLookedAt key → IsValidKey key → ChangesRow C reads writes key
+
 pub record IsSoundEntry (C : Settings) (e : Entry) : Type 0 where
   pub acts : (rows : List Row) (T : Tree) → IsAscending rows → HasTree C rows T → bytes.Agrees rows e.reads
       → (U : Tree) × HasTree C (with_writes rows e.writes.writes) U × (apply C T e.request (settled_by e.reply) ≡ (U, e.reply))
@@ -42,7 +50,6 @@ pub record IsSoundEntry (C : Settings) (e : Entry) : Type 0 where
   pub fresh : (rows : List Row) (T : Tree) → IsAscending rows → HasTree C rows T → bytes.Agrees rows e.reads → MatchOption (get T.kept e.request.client.0) ⊤ (λ kept. kept.number < e.request.number)
   pub valid : HaveValidKeys e.writes.writes
   pub keeps : written_at e.writes.writes (spelled_key (keys.Idem e.request.client)) ≡ Some (Some (spelled_value (kept_value e.request e.reply)))
-  pub kept : (client : ClientId) → client.0 < 2 ^ 128 → ChangesRow C e.reads e.writes.writes (keys.Idem client)
-  pub doomed : (id : ℕ) → id < 2 ^ 36 → ChangesRow C e.reads e.writes.writes (keys.Gc id)
+  pub changes : WritesChange C e.reads e.writes.writes
   pub update : is_query e.request.call ≡ false
   pub none_asked : e.asked ≡ []

@@ -10,6 +10,7 @@ use Rattle.fs_base.specs.declared.code.Code.TheVariants.{BadPath, BadName}
 use Rattle.fs_base.specs.declared.kind.Kind.TheVariants as kinds
 use Rattle.fs_base.specs.declared.path.Path.{Path}
 use Rattle.key_schema.specs.declared.key.Key.{Key}
+use Rattle.key_schema.specs.declared.key.Key.TheVariants as keys
 use Rattle.row_tree.specs.TreeOf.{tree_of}
 use Rattle.row_tree.specs.TypedRows.{TypedRows}
 use Rattle.row_tree.specs.WellFormed.{IsWellFormed}
@@ -17,12 +18,12 @@ use Rattle.tree_model.specs.declared.walk.WalkEnd.{WalkEnd}
 use Rattle.tree_model.specs.declared.walk.Walked.{Walked}
 use Rattle.tree_model.specs.declared.walk.Walked.TheVariants as walked
 use Rattle.tree_model.specs.Tree.{Tree}
-use Rattle.tree_model.specs.Walk.{Visit, Inode, Trip, visiting, from_base, walk, travel, is_last_of_parent, is_last_unfollowed}
+use Rattle.tree_model.specs.Walk.{Visit, Inode, Trip, stay, visiting, from_base, walk, travel, is_last_of_parent, is_last_unfollowed}
 use Rattle.txn_task.specs.Agreeing.{Agrees}
-use Rattle.txn_task.specs.Wanted.{IsUnread}
+use Rattle.txn_task.specs.Wanted.{IsUnread, IsKeyRead}
 use Rattle.txn_task.specs.declared.messages.Ask.{Ask}
 use Rattle.txn_task.specs.declared.messages.Ask.TheVariants as asks
-use Rattle.path_walk.specs.Areas.{IsArea, OneKey, walked_areas}
+use Rattle.path_walk.specs.Areas.{key_of_visit}
 use Rattle.path_walk.specs.declared.walk.Walk.{Walk}
 use Rattle.path_walk.specs.declared.walk.Move.{Move}
 use Rattle.path_walk.specs.declared.walk.Move.TheVariants.{Stop, Down, Followed}
@@ -38,36 +39,41 @@ trip_of w T =
     (visiting (Inode w.here) (from_base (get T.nodes w.here) (walk w.links T w.end w.rest w.here)))
     (walk w.links T w.end w.rest w.here)
 
-abbrev pub outcome_of : Walk → Tree → Walked
-outcome_of w T = (trip_of w T).end
-
 abbrev pub after_visits : List Visit → Trip → Trip
 after_visits [] trip = trip
 after_visits (visit ∷ visits) trip = visiting visit (after_visits visits trip)
 
--- in all well-formed rows that agree with the reads: some was looked at, and the rest is the same walk
-abbrev pub KeepsTrip : Walk → Walk → ReadSet → Type 0
-KeepsTrip old new reads = (C : Settings) (S : TypedRows) → IsWellFormed C S → Agrees S reads → (visits : List Visit) × (trip_of old (tree_of S) ≡ after_visits visits (trip_of new (tree_of S)))
+-- each of these was read
+abbrev pub AreSeen : ReadSet → List Visit → Type 0
+AreSeen reads [] = Unit {0}
+AreSeen reads (visit ∷ visits) = IsKeyRead reads (key_of_visit visit) × AreSeen reads visits
 
--- in all of them the walk ends so
-abbrev pub HasOutcome : Walk → ReadSet → Walked → Type 0
-HasOutcome w reads end = (C : Settings) (S : TypedRows) → IsWellFormed C S → Agrees S reads → outcome_of w (tree_of S) ≡ end
+-- in all well-formed rows that agree with the reads: what was looked at was read, and the rest is the same way
+abbrev pub KeepsTrip : (Tree → Trip) → (Tree → Trip) → ReadSet → Type 0
+KeepsTrip old new reads =
+    (C : Settings) (S : TypedRows) → IsWellFormed C S → Agrees S reads → (visits : List Visit) × AreSeen reads visits × (old (tree_of S) ≡ after_visits visits (new (tree_of S)))
 
--- in all of them the rest of the walk looks at the key
-abbrev pub LooksAt : Walk → ReadSet → Key → Type 0
-LooksAt w reads key = (C : Settings) (S : TypedRows) → IsWellFormed C S → Agrees S reads → IsArea (OneKey key) (walked_areas (trip_of w (tree_of S)))
+-- in all of them the way ends so, and all that is looked at on it was read
+abbrev pub HasEnd : (Tree → Trip) → ReadSet → Walked → Type 0
+HasEnd trip reads end = KeepsTrip trip (λ T. stay end) reads
 
--- a key that wasn't read, and that the rest of the walk looks at
-abbrev pub IsWalkAsk : Walk → ReadSet → Ask → Type 0
-IsWalkAsk w reads (asks.Get key) = IsUnread reads key × LooksAt w reads key
-IsWalkAsk w reads ask = ⊥
+-- in all of them the key is looked at next
+abbrev pub LooksAt : (Tree → Trip) → ReadSet → Key → Type 0
+LooksAt trip reads key =
+    (C : Settings) (S : TypedRows) → IsWellFormed C S → Agrees S reads
+    → (visits : List Visit) × (visit : Visit) × (rest : Trip) × AreSeen reads visits × (key_of_visit visit ≡ key) × (trip (tree_of S) ≡ after_visits visits (visiting visit rest))
+
+-- a key that wasn't read, and that is looked at next
+abbrev pub IsTripAsk : (Tree → Trip) → ReadSet → Ask → Type 0
+IsTripAsk trip reads (asks.Get key) = IsUnread reads key × LooksAt trip reads key
+IsTripAsk trip reads ask = ⊥
 
 abbrev pub IsWalkStep : WalkStep → Walk → ReadSet → Type 0
-IsWalkStep (steps.Ask ask) w reads = IsWalkAsk w reads ask
-IsWalkStep (steps.At id kind) w reads = HasOutcome w reads (walked.At id kind)
-IsWalkStep (steps.Parent id name) w reads = HasOutcome w reads (walked.AtParent id name)
-IsWalkStep (steps.NoName id) w reads = HasOutcome w reads (walked.NoName id)
-IsWalkStep (steps.Refused code) w reads = HasOutcome w reads (walked.Stopped code)
+IsWalkStep (steps.Ask ask) w reads = IsTripAsk (trip_of w) reads ask
+IsWalkStep (steps.At id kind) w reads = HasEnd (trip_of w) reads (walked.At id kind)
+IsWalkStep (steps.Parent id name) w reads = HasEnd (trip_of w) reads (walked.AtParent id name)
+IsWalkStep (steps.NoName id) w reads = HasEnd (trip_of w) reads (walked.NoName id)
+IsWalkStep (steps.Refused code) w reads = HasEnd (trip_of w) reads (walked.Stopped code)
 
 -- ---- how a walk begins
 
@@ -102,6 +108,7 @@ pub record IsAtLink (w : Walk) (reads : ReadSet) (id : ℕ) : Type 0 where
   pub rest : w.rest ≡ name ∷ tail
   pub more : is_last_of_parent w.end tail ≡ false
   pub followed : is_last_unfollowed w.end tail ≡ false
+  pub seen : IsKeyRead reads (keys.Dent w.here name)
   pub entry : (S : TypedRows) → Agrees S reads → get S.dents (w.here, name) ≡ Some (record { inode = id; kind = kinds.Link })
 
 -- on at the names of the target and those that are left, with a link less to follow

@@ -1,4 +1,4 @@
-ghost use Rattle.std.specs.Prelude.{◌≡◌, ◌≢◌, ◌+◌, false, Err, drop, IfOk, OnOk, IfErr, IfSome, MatchOption, if◌then◌else◌};
+ghost use Rattle.std.specs.Prelude.{◌≡◌, ◌≢◌, ◌+◌, false, true, Err, drop, IfOk, OnOk, OnErr, IfErr, IfSome, MatchOption, if◌then◌else◌};
 ghost use Rattle.fs_base.specs.Paths.{path_of};
 ghost use Rattle.tree_model.specs.Tree.{Tree};
 ghost use Rattle.tree_model.specs.Walk.{at_file, is_last_of_parent, is_last_unfollowed, travel};
@@ -58,6 +58,8 @@ pub struct Walk {
     pub here: InodeId,
     /// The names that are left.
     pub rest: Names,
+    /// Whether memory ran out on the way.
+    pub failed: bool,
 }
 
 /// What one name of a walk comes to.
@@ -137,14 +139,37 @@ impl Walk {
             links: 10,
             here,
             rest,
+            failed: false,
         })
     }
 
     /// On with what has been read. Where nothing more was read it gives the same answer again.
     ///
-    /// At most ten links are followed. Where memory runs out the walk may be left anywhere.
+    /// At most ten links are followed. Once memory ran out the answer is want of memory from then on.
     pub fn next(&mut self, alloc: Global, txn: &Txn) -> Result<WalkStep, Memory>
-        ensures keeps { OnOk result (KeepsTrip self.old self.new txn.now.reads) }
+        ensures keeps { OnOk result (KeepsTrip (trip_of self.old) (trip_of self.new) txn.now.reads) }
+        ensures step { IfOk result (λ s. IsWalkStep s self.new txn.now.reads) }
+        ensures alive { OnOk result ((self.old.failed ≡ false) × (self.new.failed ≡ false)) }
+        ensures err { OnErr result (self.new.failed ≡ true) }
+    {
+        if self.failed {
+            return Err(Memory);
+        }
+        match self.go_on(alloc, txn) {
+            Ok(step) => {
+                self.failed = false;
+                Ok(step)
+            }
+            Err(Memory) => {
+                self.failed = true;
+                Err(Memory)
+            }
+        }
+    }
+
+    /// Past the base, name by name, until an ask or the end.
+    fn go_on(&mut self, alloc: Global, txn: &Txn) -> Result<WalkStep, Memory>
+        ensures keeps { OnOk result (KeepsTrip (trip_of self.old) (trip_of self.new) txn.now.reads) }
         ensures step { IfOk result (λ s. IsWalkStep s self.new txn.now.reads) }
     {
         if let Some(step) = self.look_at_base(alloc, txn)? {
@@ -160,7 +185,7 @@ impl Walk {
     /// The base, where it has still to be looked at.
     #[tactic(auto, using(crate::proofs::WalkLaws::keeps_self))]
     fn look_at_base(&mut self, alloc: Global, txn: &Txn) -> Result<Option<WalkStep>, Memory>
-        ensures keeps { OnOk result (KeepsTrip self.old self.new txn.now.reads) }
+        ensures keeps { OnOk result (KeepsTrip (trip_of self.old) (trip_of self.new) txn.now.reads) }
         ensures step { IfOk result (λ o. MatchOption o (self.new.at_base ≡ false) (λ s. IsWalkStep s self.new txn.now.reads)) }
     {
         if !self.at_base {
@@ -183,7 +208,7 @@ impl Walk {
     fn run(&mut self, alloc: Global, txn: &Txn) -> Result<Option<WalkStep>, Memory>
         requires { self.old.at_base ≡ false }
         ensures base { self.new.at_base ≡ false }
-        ensures keeps { OnOk result (KeepsTrip self.old self.new txn.now.reads) }
+        ensures keeps { OnOk result (KeepsTrip (trip_of self.old) (trip_of self.new) txn.now.reads) }
         ensures stop { IfOk result (λ o. MatchOption o (self.new.links + 1 ≡ self.old.links) (λ s. IsWalkStep s self.new txn.now.reads)) }
     {
         loop {
@@ -200,7 +225,7 @@ impl Walk {
     fn step(&mut self, alloc: Global, txn: &Txn) -> Result<Move, Memory>
         requires { self.old.at_base ≡ false }
         ensures base { self.new.at_base ≡ false }
-        ensures keeps { OnOk result (KeepsTrip self.old self.new txn.now.reads) }
+        ensures keeps { OnOk result (KeepsTrip (trip_of self.old) (trip_of self.new) txn.now.reads) }
         ensures moved { IfOk result (λ m. IsMove m self.old self.new txn.now.reads) }
     {
         let Some(name) = self.rest.first() else {
@@ -239,7 +264,7 @@ impl Walk {
         requires base { self.old.at_base ≡ false }
         requires link { IsAtLink self.old txn.now.reads id }
         ensures base { self.new.at_base ≡ false }
-        ensures keeps { OnOk result (KeepsTrip self.old self.new txn.now.reads) }
+        ensures keeps { OnOk result (KeepsTrip (trip_of self.old) (trip_of self.new) txn.now.reads) }
         ensures moved { IfOk result (λ m. IsMove m self.old self.new txn.now.reads) }
     {
         if self.links == 0 {

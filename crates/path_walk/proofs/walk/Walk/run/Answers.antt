@@ -1,9 +1,10 @@
 use Rattle.std.proofs.Common.{◌∙◌}
+use Rattle.path_walk.specs.Walks.{trip_of}
 use Rattle.path_walk.proofs.WalkLaws.{keeps_on}
 use Rattle.path_walk.proofs.walk.Walk.run.Goals as goal
 
 pub returns-in-Stop-clause-keeps : goal.returns-in-Stop-clause-keeps
-returns-in-Stop-clause-keeps c = keeps_on c.args.self.now c.loop-step.self c.step.new.self c.args.txn.now.reads c.loop-step.invariant.keeps c.in_ok-step.ensures.keeps
+returns-in-Stop-clause-keeps c = keeps_on (trip_of c.args.self.now) (trip_of c.loop-step.self) (trip_of c.step.new.self) c.args.txn.now.reads c.loop-step.invariant.keeps c.in_ok-step.ensures.keeps
 
 pub loop-step-preserved : goal.loop-step-preserved
 loop-step-preserved c =
@@ -11,8 +12,8 @@ loop-step-preserved c =
     record {
       base = c.step.ensures.base;
       links = moved.1 ∙ c.loop-step.invariant.links;
-      keeps = keeps_on c.args.self.now c.loop-step.self c.step.new.self c.args.txn.now.reads c.loop-step.invariant.keeps c.in_ok-step.ensures.keeps;
+      keeps = keeps_on (trip_of c.args.self.now) (trip_of c.loop-step.self) (trip_of c.step.new.self) c.args.txn.now.reads c.loop-step.invariant.keeps c.in_ok-step.ensures.keeps;
     }
 
 pub returns-in-Followed-clause-keeps : goal.returns-in-Followed-clause-keeps
-returns-in-Followed-clause-keeps c = keeps_on c.args.self.now c.loop-step.self c.step.new.self c.args.txn.now.reads c.loop-step.invariant.keeps c.in_ok-step.ensures.keeps
+returns-in-Followed-clause-keeps c = keeps_on (trip_of c.args.self.now) (trip_of c.loop-step.self) (trip_of c.step.new.self) c.args.txn.now.reads c.loop-step.invariant.keeps c.in_ok-step.ensures.keeps

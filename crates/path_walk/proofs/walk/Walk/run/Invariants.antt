@@ -1,5 +1,5 @@
 use Rattle.std.proofs.Common.{◌≡◌, false, length}
-use Rattle.path_walk.specs.Walks.{KeepsTrip}
+use Rattle.path_walk.specs.Walks.{KeepsTrip, trip_of}
 use Rattle.path_walk.proofs.walk.Walk.run.Given as goal
 
 abbrev pub invariant-loop-step : goal.invariant-loop-step
@@ -7,7 +7,7 @@ invariant-loop-step l =
     record {
       base : l.self.at_base ≡ false;
       links : l.self.links ≡ l.initial.self.links;
-      keeps : KeepsTrip l.initial.self l.self l.txn.reads;
+      keeps : KeepsTrip (trip_of l.initial.self) (trip_of l.self) l.txn.reads;
     }
 
 abbrev pub decreases-loop-step : goal.decreases-loop-step
