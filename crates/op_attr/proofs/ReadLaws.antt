@@ -1,30 +1,46 @@
 -- What stat, list and readlink tell where their walk has ended, by what is known of the rows.
-use Rattle.std.proofs.Common.{◌≡◌, ℕ, ◌<◌, ◌^◌, List, map, sym, ap, ◌∙◌}
+use Rattle.std.proofs.Common.{◌≡◌, ◌≢◌, ℕ, ◌<◌, ◌^◌, List, [], ◌∷◌, map, refl, sym, ap, subst, ◌∙◌, inl, arith}
 use Rattle.std.specs.Prelude.{Option, Some, None}
-use Rattle.std.specs.FinMap.{get}
+use Rattle.std.specs.FinMap.{get, insert}
 use Rattle.conflict_sets.specs.declared.sets.ReadSet.{ReadSet}
+use Rattle.fs_base.specs.Config.{Settings}
+use Rattle.fs_base.specs.declared.call.Changes.{Changes}
+use Rattle.fs_base.specs.declared.code.Code.{Code}
 use Rattle.fs_base.specs.declared.code.Code.TheVariants as codes
 use Rattle.fs_base.specs.declared.kind.Kind.{Kind}
 use Rattle.fs_base.specs.declared.kind.Kind.TheVariants as kinds
 use Rattle.fs_base.specs.declared.reply.Attributes.{Attributes}
 use Rattle.fs_base.specs.declared.reply.DirEntry.{DirEntry}
 use Rattle.fs_base.specs.declared.reply.Reply.{Reply}
-use Rattle.fs_base.specs.declared.reply.Reply.TheVariants.{Attr, Names, Refused}
+use Rattle.fs_base.specs.declared.reply.Reply.TheVariants.{Attr, Done, Found, Names, Refused}
 use Rattle.inode_record.specs.declared.inode.InodeRow.{InodeRow}
+use Rattle.key_schema.specs.Ranges.{dir_prefix, raised}
+use Rattle.key_schema.specs.declared.key.Key.{Key}
+use Rattle.key_schema.specs.declared.key.Key.TheVariants as keys
 use Rattle.row_tree.specs.Told.{attributes_at, listed}
 use Rattle.row_tree.specs.TreeOf.{tree_of, node_of, node_part}
 use Rattle.row_tree.specs.TypedRows.{TypedRows, dir_rows}
+use Rattle.row_tree.specs.WellFormed.{IsWellFormed}
 use Rattle.row_tree.proofs.Telling.{node_is}
 use Rattle.row_tree.proofs.Told.{attributes_are, names_are}
 use Rattle.tree_model.specs.declared.node.Node.{Node}
-use Rattle.tree_model.specs.declared.walk.Walked.TheVariants.{At}
-use Rattle.tree_model.specs.Attributes.{attributes_of}
-use Rattle.tree_model.specs.Effects.{Effect, Leaves}
+use Rattle.tree_model.specs.declared.walk.Walked.{Walked}
+use Rattle.tree_model.specs.declared.walk.Walked.TheVariants.{At, AtParent, NoName, Stopped}
+use Rattle.tree_model.specs.Attributes.{attributes_of, changed}
+use Rattle.tree_model.specs.Effects.{Effect, Leaves, Makes}
 use Rattle.tree_model.specs.Finding.{if_there, target_of}
 use Rattle.txn_task.specs.Agreeing.{Agrees}
+use Rattle.txn_task.specs.Pages.{next_page, AsksPage}
 use Rattle.txn_task.specs.Transactions.{Transaction}
+use Rattle.txn_task.specs.Wanted.{IsKeyRead, IsUnread}
+use Rattle.txn_task.specs.declared.messages.Ask.{Ask}
+use Rattle.txn_task.specs.declared.messages.Ask.TheVariants as asks
 use Rattle.txn_task.specs.declared.messages.OpStep.TheVariants as steps
+use Rattle.path_walk.specs.Areas.{OneKey, AreRead}
+use Rattle.path_walk.proofs.StepLaws.{tells, asks_for, asks_key}
+use Rattle.op_attr.specs.declared.task.AttrCall.{AttrCall}
 use Rattle.op_attr.specs.declared.task.AttrCall.TheVariants as attr
+use Rattle.op_attr.specs.Attr.{at_end_of, read_at}
 use Rattle.op_attr.specs.Ending.{IsEndStep}
 
 abbrev pub IsAbsent : ReadSet → ℕ → Type 0
@@ -40,40 +56,84 @@ nothing_at S id f none = ap (λ (n : Option Node). if_there n f) (node_is S id N
 pub node_at : (S : TypedRows) (id : ℕ) (f : Node → Effect) (row : InodeRow) → get S.inodes id ≡ Some row → if_there (get (tree_of S).nodes id) f ≡ f (node_of row)
 node_at S id f row is = ap (λ (n : Option Node). if_there n f) (node_is S id (Some row) is)
 
-module _ (t : Transaction) (id : ℕ) where
-  pub stat_nowhere : (kind : Kind) → IsAbsent t.reads id → IsEndStep attr.Stat (At id kind) t (steps.Reply (Refused codes.NotFound))
-  stat_nowhere kind none = record {
-    step = λ C S good agrees. nothing_at S id (λ node. Leaves (Attr (attributes_of (tree_of S) id node))) (none S agrees);
-    asked = tt;
-    unwritten = tt;
-  }
+module _ (t : Transaction) (none : t.writes ≡ []) where
+  -- a reply that all rows give which agree, where all was read
+  told : (call : AttrCall) (walked : Walked) (reply : Reply) → AreRead t.reads (read_at call walked) → ((C : Settings) (S : TypedRows) → IsWellFormed C S → Agrees S t.reads → at_end_of call (tree_of S) walked ≡ Leaves reply)
+      → IsEndStep call walked t t (steps.Reply reply)
+  told call walked reply read is C = tells C (λ T. read_at call walked) (λ T. at_end_of call T walked) t none reply (λ S good agrees. read) (is C)
 
-  pub stat_told : (kind : Kind) (row : InodeRow) (told : Attributes) → StandsAt t.reads id row → told ≡ attributes_at id row → row.links < 2 ^ 32 → IsEndStep attr.Stat (At id kind) t (steps.Reply (Attr told))
-  stat_told kind row told is same small = record {
-    step = λ C S good agrees.
+  -- ---- where the walk comes to no node
+
+  pub stopped : (call : AttrCall) (code : Code) → IsEndStep call (Stopped code) t t (steps.Reply (Refused code))
+  stopped attr.Lookup code = told attr.Lookup (Stopped code) (Refused code) tt (λ C S good agrees. refl)
+  stopped attr.Stat code = told attr.Stat (Stopped code) (Refused code) tt (λ C S good agrees. refl)
+  stopped attr.List code = told attr.List (Stopped code) (Refused code) tt (λ C S good agrees. refl)
+  stopped attr.Readlink code = told attr.Readlink (Stopped code) (Refused code) tt (λ C S good agrees. refl)
+  stopped (attr.Setattr stamp given) code = told (attr.Setattr stamp given) (Stopped code) (Refused code) tt (λ C S good agrees. refl)
+
+  pub at_parent : (call : AttrCall) (id : ℕ) (name : List ℕ) → IsEndStep call (AtParent id name) t t (steps.Reply (Refused codes.NotDir))
+  at_parent attr.Lookup id name = told attr.Lookup (AtParent id name) (Refused codes.NotDir) tt (λ C S good agrees. refl)
+  at_parent attr.Stat id name = told attr.Stat (AtParent id name) (Refused codes.NotDir) tt (λ C S good agrees. refl)
+  at_parent attr.List id name = told attr.List (AtParent id name) (Refused codes.NotDir) tt (λ C S good agrees. refl)
+  at_parent attr.Readlink id name = told attr.Readlink (AtParent id name) (Refused codes.NotDir) tt (λ C S good agrees. refl)
+  at_parent (attr.Setattr stamp given) id name = told (attr.Setattr stamp given) (AtParent id name) (Refused codes.NotDir) tt (λ C S good agrees. refl)
+
+  pub no_name : (call : AttrCall) (id : ℕ) → IsEndStep call (NoName id) t t (steps.Reply (Refused codes.NotDir))
+  no_name attr.Lookup id = told attr.Lookup (NoName id) (Refused codes.NotDir) tt (λ C S good agrees. refl)
+  no_name attr.Stat id = told attr.Stat (NoName id) (Refused codes.NotDir) tt (λ C S good agrees. refl)
+  no_name attr.List id = told attr.List (NoName id) (Refused codes.NotDir) tt (λ C S good agrees. refl)
+  no_name attr.Readlink id = told attr.Readlink (NoName id) (Refused codes.NotDir) tt (λ C S good agrees. refl)
+  no_name (attr.Setattr stamp given) id = told (attr.Setattr stamp given) (NoName id) (Refused codes.NotDir) tt (λ C S good agrees. refl)
+
+  -- ---- at a node
+
+  module _ (id : ℕ) where
+    pub asks_inode : (call : AttrCall) (kind : Kind) (key : Key) → read_at call (At id kind) ≡ OneKey (keys.Inode id) ∷ [] → (key ≡ keys.Inode id) × IsUnread t.reads (keys.Inode id) → IsEndStep call (At id kind) t t (steps.Ask (asks.Get key))
+    asks_inode call kind key is unread C = asks_key C (λ T. read_at call (At id kind)) (λ T. at_end_of call T (At id kind)) t none key (keys.Inode id) (λ T. []) unread (λ S good agrees. ([], tt, is))
+
+    pub found : (kind : Kind) → IsEndStep attr.Lookup (At id kind) t t (steps.Reply (Found id kind))
+    found kind = told attr.Lookup (At id kind) (Found id kind) tt (λ C S good agrees. refl)
+
+    pub stat_nowhere : (kind : Kind) → IsKeyRead t.reads (keys.Inode id) → IsAbsent t.reads id → IsEndStep attr.Stat (At id kind) t t (steps.Reply (Refused codes.NotFound))
+    stat_nowhere kind read absent = told attr.Stat (At id kind) (Refused codes.NotFound) (read, tt) (λ C S good agrees. nothing_at S id (λ node. Leaves (Attr (attributes_of (tree_of S) id node))) (absent S agrees))
+
+    pub stat_told : (kind : Kind) (row : InodeRow) (attributes : Attributes) → IsKeyRead t.reads (keys.Inode id) → StandsAt t.reads id row → attributes ≡ attributes_at id row → row.links < 2 ^ 32
+        → IsEndStep attr.Stat (At id kind) t t (steps.Reply (Attr attributes))
+    stat_told kind row attributes read is same small =
+        told attr.Stat (At id kind) (Attr attributes) (read, tt) (λ C S good agrees.
         node_at S id (λ node. Leaves (Attr (attributes_of (tree_of S) id node))) row (is S agrees)
-        ∙ ap (λ (a : Attributes). Leaves (Attr a)) (attributes_are C S good id row (is S agrees) small ∙ sym same);
-    asked = tt;
-    unwritten = tt;
-  }
+        ∙ ap (λ (a : Attributes). Leaves (Attr a)) (attributes_are C S good id row (is S agrees) small ∙ sym same))
 
-  pub target_nowhere : IsAbsent t.reads id → IsEndStep attr.Readlink (At id kinds.Link) t (steps.Reply (Refused codes.NotFound))
-  target_nowhere none = record {
-    step = λ C S good agrees. nothing_at S id (λ node. target_of node.part) (none S agrees);
-    asked = tt;
-    unwritten = tt;
-  }
+    pub setattr_nowhere : (kind : Kind) (stamp : ℕ) (given : Changes) → IsKeyRead t.reads (keys.Inode id) → IsAbsent t.reads id → IsEndStep (attr.Setattr stamp given) (At id kind) t t (steps.Reply (Refused codes.NotFound))
+    setattr_nowhere kind stamp given read absent =
+        told (attr.Setattr stamp given) (At id kind) (Refused codes.NotFound) (read, tt)
+        (λ C S good agrees. nothing_at S id (λ node. Makes (record (tree_of S) { nodes = insert (tree_of S).nodes id (changed given stamp node) }) Done) (absent S agrees))
 
-  pub target_told : (row : InodeRow) (told : Reply) → StandsAt t.reads id row → target_of (node_part row.part) ≡ Leaves told → IsEndStep attr.Readlink (At id kinds.Link) t (steps.Reply told)
-  target_told row told is same = record {
-    step = λ C S good agrees. node_at S id (λ node. target_of node.part) row (is S agrees) ∙ same;
-    asked = tt;
-    unwritten = tt;
-  }
+    -- ---- readlink: the entry tells whether it is a link
 
-  pub list_told : (names : List DirEntry) → ((S : TypedRows) → Agrees S t.reads → names ≡ map listed (dir_rows S id)) → IsEndStep attr.List (At id kinds.Dir) t (steps.Reply (Names names))
-  list_told names is = record {
-    step = λ C S good agrees. ap (λ (l : List DirEntry). Leaves (Names l)) (names_are C S good id ∙ sym (is S agrees));
-    asked = tt;
-    unwritten = tt;
-  }
+    pub no_link : (kind : Kind) → kind ≢ kinds.Link → IsEndStep attr.Readlink (At id kind) t t (steps.Reply (Refused codes.NotLink))
+    no_link kinds.Dir other = told attr.Readlink (At id kinds.Dir) (Refused codes.NotLink) tt (λ C S good agrees. refl)
+    no_link kinds.File other = told attr.Readlink (At id kinds.File) (Refused codes.NotLink) tt (λ C S good agrees. refl)
+    no_link kinds.Link other = absurd (other refl)
+
+    pub target_nowhere : IsKeyRead t.reads (keys.Inode id) → IsAbsent t.reads id → IsEndStep attr.Readlink (At id kinds.Link) t t (steps.Reply (Refused codes.NotFound))
+    target_nowhere read absent = told attr.Readlink (At id kinds.Link) (Refused codes.NotFound) (read, tt) (λ C S good agrees. nothing_at S id (λ node. target_of node.part) (absent S agrees))
+
+    pub target_told : (row : InodeRow) (reply : Reply) → IsKeyRead t.reads (keys.Inode id) → StandsAt t.reads id row → target_of (node_part row.part) ≡ Leaves reply → IsEndStep attr.Readlink (At id kinds.Link) t t (steps.Reply reply)
+    target_told row reply read is same = told attr.Readlink (At id kinds.Link) reply (read, tt) (λ C S good agrees. node_at S id (λ node. target_of node.part) row (is S agrees) ∙ same)
+
+    -- ---- list
+
+    pub no_list : (kind : Kind) → kind ≢ kinds.Dir → IsEndStep attr.List (At id kind) t t (steps.Reply (Refused codes.NotDir))
+    no_list kinds.Dir other = absurd (other refl)
+    no_list kinds.File other = told attr.List (At id kinds.File) (Refused codes.NotDir) tt (λ C S good agrees. refl)
+    no_list kinds.Link other = told attr.List (At id kinds.Link) (Refused codes.NotDir) tt (λ C S good agrees. refl)
+
+    pub list_asks : (ask : Ask) → AsksPage (dir_prefix id) (raised (dir_prefix id)) t.reads.ranges ask → IsEndStep attr.List (At id kinds.Dir) t t (steps.Ask ask)
+    list_asks ask page =
+        subst (λ (a : Ask). IsEndStep attr.List (At id kinds.Dir) t t (steps.Ask a)) (sym page.2)
+        (λ C. asks_for C (λ T. read_at attr.List (At id kinds.Dir)) (λ T. at_end_of attr.List T (At id kinds.Dir)) t none (asks.Range page.0 (raised (dir_prefix id)) 128) (omega arith) (λ S good agrees. inl (refl, refl, page.1)))
+
+    pub list_told : (names : List DirEntry) → next_page (raised (dir_prefix id)) (Some (dir_prefix id)) t.reads.ranges ≡ None → ((S : TypedRows) → Agrees S t.reads → names ≡ map listed (dir_rows S id))
+        → IsEndStep attr.List (At id kinds.Dir) t t (steps.Reply (Names names))
+    list_told names all is = told attr.List (At id kinds.Dir) (Names names) (all, tt) (λ C S good agrees. ap (λ (l : List DirEntry). Leaves (Names l)) (names_are C S good id ∙ sym (is S agrees)))

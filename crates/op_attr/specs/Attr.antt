@@ -1,25 +1,19 @@
--- What a query or setattr under way comes to, what it may still read, and which ranges it has read.
-use Rattle.std.specs.Prelude.{◌≡◌, IsTrue, List, [], ◌∷◌}
+-- What a query or setattr under way comes to, and what it still reads.
+use Rattle.std.specs.Prelude.{IsTrue, List}
 use Rattle.byte_fields.specs.Fields.{time}
-use Rattle.conflict_sets.specs.declared.sets.RangeRead.{RangeRead}
 use Rattle.fs_base.specs.declared.call.Call.{Call}
 use Rattle.fs_base.specs.declared.call.Call.TheVariants as calls
-use Rattle.fs_base.specs.declared.kind.Kind.TheVariants as kinds
 use Rattle.row_records.specs.Calls.{changes}
 use Rattle.tree_model.specs.declared.walk.Walked.{Walked}
-use Rattle.tree_model.specs.declared.walk.Walked.TheVariants.{At}
-use Rattle.tree_model.specs.Effects.{Effect, Leaves, refuses}
+use Rattle.tree_model.specs.Effects.{Effect, Leaves}
 use Rattle.tree_model.specs.Finding.{found_of, stat_at, list_at, readlink_at, setattr_at}
 use Rattle.tree_model.specs.Tree.{Tree}
-use Rattle.txn_task.specs.Listing.{ArePages}
-use Rattle.path_walk.specs.Areas.{Area, Entries, trip_areas}
+use Rattle.path_walk.specs.Areas.{Area}
 use Rattle.path_walk.specs.Footprint.{nothing_at, inode_at, link_at, entries_at}
-use Rattle.path_walk.specs.Walks.{trip_of, outcome_of}
+use Rattle.path_walk.specs.Stages.{does, looks, trip_at}
 use Rattle.op_attr.specs.declared.task.AttrCall.{AttrCall}
 use Rattle.op_attr.specs.declared.task.AttrCall.TheVariants as attr
 use Rattle.op_attr.specs.declared.task.AttrTask.{AttrTask}
-use Rattle.op_attr.specs.declared.task.Stage.{Stage}
-use Rattle.op_attr.specs.declared.task.Stage.TheVariants.{Refused, Walking, Listing}
 
 -- the calls of this task
 abbrev pub IsAttrCall : Call → Type 0
@@ -46,30 +40,11 @@ read_at attr.List = entries_at
 read_at attr.Readlink = link_at
 read_at (attr.Setattr stamp given) = inode_at
 
-abbrev pub effect_at : AttrCall → Stage → Tree → Effect
-effect_at call (Refused code) T = refuses code
-effect_at call (Walking walk) T = at_end_of call T (outcome_of walk T)
-effect_at call (Listing dir) T = list_at T (At dir kinds.Dir)
-
-abbrev pub areas_at : AttrCall → Stage → Tree → List Area
-areas_at call (Refused code) T = []
-areas_at call (Walking walk) T = trip_areas (trip_of walk T) (read_at call)
-areas_at call (Listing dir) T = Entries dir ∷ []
-
--- the ranges that were read: a directory's pages, once it is listed
-abbrev pub HasPages : Stage → List RangeRead → Type 0
-HasPages (Refused code) ranges = ranges ≡ []
-HasPages (Walking walk) ranges = ranges ≡ []
-HasPages (Listing dir) ranges = ArePages dir ranges
-
 abbrev pub effect_of : AttrTask → Tree → Effect
-effect_of task = effect_at task.call task.stage
+effect_of task = does (at_end_of task.call) (trip_at task.stage)
 
 abbrev pub areas_of : AttrTask → Tree → List Area
-areas_of task = areas_at task.call task.stage
-
-abbrev pub HasAsked : AttrTask → List RangeRead → Type 0
-HasAsked task ranges = HasPages task.stage ranges
+areas_of task = looks (λ T. read_at task.call) (trip_at task.stage)
 
 -- the numbers that setattr sets are in their ranges: a time, and those of a call's changes
 abbrev pub MaySet : AttrCall → Type 0

@@ -1,16 +1,12 @@
--- How a task begins: by its call, where the walk of its place is to end, and whether its place reads as a path.
-use Rattle.std.specs.Prelude.{◌≡◌, ℕ, Err}
-use Rattle.fs_base.specs.Paths.{path_of}
+-- How a task begins: by its call, and where the walk of its place is to end.
+use Rattle.std.specs.Prelude.{◌≡◌, ℕ}
 use Rattle.fs_base.specs.declared.call.Call.{Call}
 use Rattle.fs_base.specs.declared.call.Call.TheVariants as calls
 use Rattle.fs_base.specs.declared.call.Place.{Place}
 use Rattle.tree_model.specs.declared.walk.WalkEnd.{WalkEnd}
 use Rattle.tree_model.specs.declared.walk.WalkEnd.TheVariants.{Follow, NoFollow}
-use Rattle.path_walk.specs.Walks.{IsStart}
 use Rattle.op_attr.specs.declared.task.AttrCall.{AttrCall}
 use Rattle.op_attr.specs.declared.task.AttrCall.TheVariants as attr
-use Rattle.op_attr.specs.declared.task.Stage.{Stage}
-use Rattle.op_attr.specs.declared.task.Stage.TheVariants.{Refused, Walking, Listing}
 
 -- a link as the last name is what lookup and readlink ask about
 abbrev pub end_of : AttrCall → WalkEnd
@@ -26,9 +22,3 @@ IsCallAt stamp (calls.List at) call place = (place ≡ at) × (call ≡ attr.Lis
 IsCallAt stamp (calls.Readlink at) call place = (place ≡ at) × (call ≡ attr.Readlink)
 IsCallAt stamp (calls.Setattr at given) call place = (place ≡ at) × (call ≡ attr.Setattr stamp given)
 IsCallAt stamp _ call place = ⊥
-
--- why the place is no path, or its walk
-abbrev pub IsBegun : Place → WalkEnd → Stage → Type 0
-IsBegun place end (Refused code) = path_of place.text ≡ Err code
-IsBegun place end (Walking walk) = IsStart walk place end
-IsBegun place end (Listing dir) = ⊥

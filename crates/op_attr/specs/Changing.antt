@@ -1,15 +1,12 @@
--- The row that setattr makes of an inode's, and that what is written changes.
+-- The row that setattr makes of an inode's, and when it is put.
 use Rattle.std.specs.Prelude.{◌≡◌, ◌≢◌, ◌⊎◌, ℕ, Some, unwrap_or}
-use Rattle.fs_base.specs.Config.{Settings}
 use Rattle.fs_base.specs.declared.call.Changes.{Changes}
 use Rattle.inode_record.specs.Inode.{spelled_inode}
 use Rattle.inode_record.specs.declared.inode.InodeRow.{InodeRow}
-use Rattle.key_schema.specs.Keys.{spelled_key, IsValidKey}
-use Rattle.key_schema.specs.declared.key.Key.{Key}
+use Rattle.key_schema.specs.Keys.{spelled_key}
 use Rattle.key_schema.specs.declared.key.Key.TheVariants as keys
 use Rattle.txn_task.specs.Transactions.{Transaction}
 use Rattle.txn_task.specs.Writes.{set_write}
-use Rattle.path_walk.specs.Sound.{ChangesRow}
 
 -- what is given is set, and the change time is the stamp
 abbrev pub changed_row : Changes → ℕ → InodeRow → InodeRow
@@ -28,7 +25,3 @@ with_inode t id row = record t { writes = set_write (spelled_key (keys.Inode id)
 -- the new row is put where it differs from the one that stands there
 abbrev pub PutsChanged : ℕ → InodeRow → InodeRow → Transaction → Transaction → Type 0
 PutsChanged id row new old after = ((new ≡ row) × (after ≡ old)) ⊎ ((new ≢ row) × (after ≡ with_inode old id new))
-
--- at whatever key, what is written there is another value than stands there
-abbrev pub WritesChange : Settings → Transaction → Type 0
-WritesChange C t = (key : Key) → IsValidKey key → ChangesRow C t.reads t.writes key

@@ -5,4 +5,4 @@ mod next;
 mod setattr;
 mod task;
 
-pub use task::{AttrCall, AttrTask, Stage};
+pub use task::{AttrCall, AttrTask};

@@ -1,17 +1,15 @@
 ghost use Rattle.std.specs.Prelude.{◌≡◌, ◌<◌, ◌^◌, ◌↔◌, [], IsTrue, IfOk, OnOk};
-ghost use Rattle.fs_base.specs.Config.{Settings};
 ghost use Rattle.fs_base.specs.declared.kind.Kind.{Kind};
 ghost use Rattle.tree_model.specs.declared.walk.Walked.TheVariants.{At};
 ghost use Rattle.op_attr.specs.declared.task.AttrCall.TheVariants as attr;
 ghost use Rattle.op_attr.specs.Attr.{MaySet};
-ghost use Rattle.op_attr.specs.Changing.{changed_row, PutsChanged, WritesChange};
+ghost use Rattle.op_attr.specs.Changing.{changed_row, PutsChanged};
 ghost use Rattle.op_attr.specs.Ending.{IsEndStep};
 
 use fs_base::{Changes, Code, InodeId, Items, Memory, Reply};
 use inode_record::InodeRow;
-use key_schema::Key;
 use std::alloc::Global;
-use txn_task::{Ask, OpStep, Txn, Want, want_inode};
+use txn_task::{Ask, OpStep, Txn, Want, put_inode, want_inode};
 
 /// Whether a row is already as setattr wants it.
 fn is_unchanged(row: &InodeRow, changes: Changes, stamp: u64) -> bool
@@ -54,8 +52,7 @@ fn put_changed(
     if is_unchanged(&row, changes, stamp) {
         return Ok(());
     }
-    let bytes = changed(row, changes, stamp).write(alloc)?;
-    txn.put(alloc, &Key::Inode(id), Some(bytes))
+    put_inode(alloc, txn, id, &changed(row, changes, stamp))
 }
 
 /// An inode's number is below 2^36.
@@ -66,7 +63,6 @@ fn in_range(id: InodeId)
 }
 
 /// Sets the attributes of an inode. It is committed also where nothing changes.
-#[tactic(auto, using(crate::proofs::WritingLaws::changes_none))]
 pub(crate) fn setattr(
     alloc: Global,
     txn: &mut Txn,
@@ -76,10 +72,7 @@ pub(crate) fn setattr(
 ) -> Result<OpStep, Memory>
     requires ready { MaySet (attr.Setattr stamp changes) }
     requires writes { txn.old.writes ≡ [] }
-    requires asked { txn.old.reads.ranges ≡ [] }
-    ensures reads { OnOk result ((txn.new.reads ≡ txn.old.reads) × (txn.new.snapshot ≡ txn.old.snapshot)) }
-    ensures step { IfOk result (λ s. (kind : Kind) → IsEndStep (attr.Setattr stamp changes) (At id kind) txn.new s) }
-    ensures changes { OnOk result ((C : Settings) → WritesChange C txn.new) }
+    ensures { IfOk result (λ s. (kind : Kind) → IsEndStep (attr.Setattr stamp changes) (At id kind) txn.old txn.new s) }
 {
     let row = match want_inode(alloc, txn, id)? {
         Want::Ask(key) => return Ok(OpStep::Ask(Ask::Get(key))),

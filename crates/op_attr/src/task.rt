@@ -1,14 +1,13 @@
-ghost use Rattle.std.specs.Prelude.{◌≡◌, [], IfOk};
+ghost use Rattle.std.specs.Prelude.{◌≡◌, IfOk};
 ghost use Rattle.tree_model.specs.Calls.{effect};
 ghost use Rattle.tree_model.specs.Tree.{Tree};
-ghost use Rattle.path_walk.specs.Areas.{Area, IsArea};
 ghost use Rattle.path_walk.specs.Footprint.{call_areas};
 ghost use Rattle.path_walk.specs.Requests.{IsRequest};
-ghost use Rattle.op_attr.specs.Attr.{IsAttrCall, IsReady, HasAsked, areas_of, effect_of};
-ghost use Rattle.op_attr.specs.Beginning.{IsBegun, IsCallAt, end_of};
+ghost use Rattle.op_attr.specs.Attr.{IsAttrCall, IsReady, areas_of, effect_of};
+ghost use Rattle.op_attr.specs.Beginning.{IsCallAt, end_of};
 
-use fs_base::{Call, Changes, Code, Config, InodeId, Memory, Place, Request};
-use path_walk::{Walk, WalkError};
+use fs_base::{Call, Changes, Config, Memory, Place, Request};
+use path_walk::Stage;
 use std::alloc::Global;
 use tree_model::WalkEnd;
 
@@ -23,23 +22,14 @@ pub enum AttrCall {
     Setattr { stamp: u64, changes: Changes },
 }
 
-/// How far a task has come.
-#[derive(Drop)]
-pub enum Stage {
-    /// The place's text is no path.
-    Refused(Code),
-    /// On the way, or where it ends.
-    Walking(Walk),
-    /// The entries of a directory are read, page by page.
-    Listing(InodeId),
-}
-
 /// lookup, stat, list, readlink or setattr under way.
 #[derive(Drop)]
 pub struct AttrTask {
     pub config: Config,
     pub call: AttrCall,
     pub stage: Stage,
+    /// Whether memory ran out on the way.
+    pub failed: bool,
 }
 
 /// Where the walk of a call's place ends.
@@ -55,17 +45,6 @@ fn end_of(call: AttrCall) -> WalkEnd
     }
 }
 
-fn begin(alloc: Global, place: &Place, end: WalkEnd) -> Result<Stage, Memory>
-    ensures { IfOk result (IsBegun place.now end) }
-{
-    match Walk::new(alloc, place, end) {
-        Ok(walk) => Ok(Stage::Walking(walk)),
-        Err(WalkError::BadPath) => Ok(Stage::Refused(Code::BadPath)),
-        Err(WalkError::BadName) => Ok(Stage::Refused(Code::BadName)),
-        Err(WalkError::Memory) => Err(Memory),
-    }
-}
-
 impl AttrTask {
     /// The task of a query by place, or of setattr. Nothing is asked for yet; a fault in the place's text is known.
     pub fn new(alloc: Global, request: &Request, config: &Config) -> Result<AttrTask, Memory>
@@ -73,8 +52,7 @@ impl AttrTask {
         requires call { IsAttrCall request.now.call }
         ensures config { IfOk result (λ task. task.config ≡ config.now) }
         ensures effect { IfOk result (λ task. (T : Tree) → effect_of task T ≡ effect config.now T request.now) }
-        ensures areas { IfOk result (λ task. (T : Tree) (area : Area) → IsArea area (areas_of task T) → IsArea area (call_areas T request.now.server request.now.call)) }
-        ensures asked { IfOk result (λ task. HasAsked task []) }
+        ensures areas { IfOk result (λ task. (T : Tree) → areas_of task T ≡ call_areas config.now T request.now.server request.now.call) }
         ensures ready { IfOk result IsReady }
     {
         match &request.call {
@@ -107,15 +85,15 @@ impl AttrTask {
         requires call { IsCallAt request.now.stamp request.now.call call place.now }
         ensures config { IfOk result (λ task. task.config ≡ config.now) }
         ensures effect { IfOk result (λ task. (T : Tree) → effect_of task T ≡ effect config.now T request.now) }
-        ensures areas { IfOk result (λ task. (T : Tree) (area : Area) → IsArea area (areas_of task T) → IsArea area (call_areas T request.now.server request.now.call)) }
-        ensures asked { IfOk result (λ task. HasAsked task []) }
+        ensures areas { IfOk result (λ task. (T : Tree) → areas_of task T ≡ call_areas config.now T request.now.server request.now.call) }
         ensures ready { IfOk result IsReady }
     {
-        let stage = begin(alloc, place, end_of(call))?;
+        let stage = Stage::new(alloc, place, end_of(call), None)?;
         Ok(AttrTask {
             config: *config,
             call,
             stage,
+            failed: false,
         })
     }
 }

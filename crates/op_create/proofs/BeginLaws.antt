@@ -18,41 +18,46 @@ use Rattle.tree_model.specs.declared.new_node.NewNode.{NewNode}
 use Rattle.tree_model.specs.declared.new_node.NewPart.{NewPart}
 use Rattle.tree_model.specs.declared.new_node.NewPart.TheVariants as new
 use Rattle.tree_model.specs.declared.walk.WalkEnd.TheVariants.{Parent}
-use Rattle.tree_model.specs.Calls.{effect_of}
+use Rattle.tree_model.specs.Calls.{effect}
+use Rattle.tree_model.specs.Calls as table
 use Rattle.tree_model.specs.Creating.{is_layout, make_at, new_dir, new_file, new_link}
 use Rattle.tree_model.specs.Effects.{Effect, refuses, on_path}
 use Rattle.tree_model.specs.Tree.{Tree}
-use Rattle.tree_model.specs.Walk.{Trip, resolve}
+use Rattle.tree_model.specs.Walk.{Trip, resolve, travel}
+use Rattle.path_walk.specs.Areas.{trip_areas}
+use Rattle.path_walk.specs.Faults.{refusal, part_fault, layout_fault, first_fault, node_fault}
+use Rattle.path_walk.specs.Footprint.{unless_fault, on_words, trip_from, child_at, makes, call_areas}
 use Rattle.path_walk.specs.Requests.{IsRequest}
+use Rattle.path_walk.specs.Stages.{trip_at, IsClear}
+use Rattle.path_walk.specs.declared.stage.Stage.{Stage}
+use Rattle.path_walk.specs.declared.stage.Stage.TheVariants.{Refused, Walking}
 use Rattle.op_create.specs.declared.task.CreateTask.{CreateTask}
-use Rattle.op_create.specs.declared.task.Stage.{Stage}
-use Rattle.op_create.specs.declared.task.Stage.TheVariants.{Refused, Walking}
-use Rattle.op_create.specs.Beginning.{refusal, part_fault, layout_fault, first_fault, node_fault, IsBegun, IsMade}
-use Rattle.op_create.specs.Create.{IsPart, IsWalkReady, IsReady, effect_at}
+use Rattle.op_create.specs.Beginning.{IsMade}
+use Rattle.op_create.specs.Create.{IsPart, IsWalkReady, IsReady, areas_of, effect_of}
 
 -- ---- what the call comes to
 
-abbrev unless_fault : Option Code → Effect → Effect
-unless_fault None effect = effect
-unless_fault (Some code) effect = refuses code
+abbrev or_fault : Option Code → Effect → Effect
+or_fault None effect = effect
+or_fault (Some code) effect = refuses code
 
 -- a call that makes a node, by the first fault of its words
 abbrev wanted : Settings → Tree → ℕ → ℕ → NewNode → Place → Effect
-wanted C T server stamp node where_to = on_path (path_of where_to.text) (λ path. unless_fault (node_fault C node) (make_at C T server stamp node (resolve T where_to.base path Parent)))
+wanted C T server stamp node where_to = on_path (path_of where_to.text) (λ path. or_fault (node_fault C node) (make_at C T server stamp node (resolve T where_to.base path Parent)))
 
 same_path : (r : Result Path Code) (f g : Path → Effect) → ((path : Path) → f path ≡ g path) → on_path r f ≡ on_path r g
 same_path (Ok path) f g same = same path
 same_path (Err code) f g same = refl
 
-by_layout : (fits : Bool) (effect : Effect) → unless_fault (cond fits None (Some BadLayout)) effect ≡ cond fits effect (refuses BadLayout)
+by_layout : (fits : Bool) (effect : Effect) → or_fault (cond fits None (Some BadLayout)) effect ≡ cond fits effect (refuses BadLayout)
 by_layout true effect = refl
 by_layout false effect = refl
 
-by_target : (r : Result Path Code) (effect : Effect) → unless_fault (first_fault (refusal r) None) effect ≡ on_path r (λ path. effect)
+by_target : (r : Result Path Code) (effect : Effect) → or_fault (first_fault (refusal r) None) effect ≡ on_path r (λ path. effect)
 by_target (Ok path) effect = refl
 by_target (Err code) effect = refl
 
-is_wanted : (C : Settings) (T : Tree) (q : Request) (what : Call) (where_to : Place) (node : NewNode) → IsMade what where_to node → wanted C T q.server q.stamp node where_to ≡ effect_of C T q what
+is_wanted : (C : Settings) (T : Tree) (q : Request) (what : Call) (where_to : Place) (node : NewNode) → IsMade what where_to node → wanted C T q.server q.stamp node where_to ≡ table.effect_of C T q what
 is_wanted C T q (calls.Mkdir from mode layout) where_to node is =
     (λ i. wanted C T q.server q.stamp (is.1 i) (is.0 i))
     ∙ same_path (path_of from.text) _ _ (λ path. by_layout (is_layout C layout) (make_at C T q.server q.stamp (new_dir mode layout) (resolve T from.base path Parent)))
@@ -64,27 +69,38 @@ is_wanted C T q (calls.Symlink from target) where_to node is =
     ∙ same_path (path_of from.text) _ _ (λ path. by_target (path_of target) (make_at C T q.server q.stamp (new_link target) (resolve T from.base path Parent)))
 is_wanted C T q what where_to node is = absurd is
 
-module _ (task : CreateTask) (where_to : Place) (T : Tree) where
-  abbrev at_parent : Path → Effect
-  at_parent path = make_at task.config T task.server task.stamp task.node (resolve T where_to.base path Parent)
+module _ (C : Settings) (T : Tree) (server stamp : ℕ) (node : NewNode) (where_to : Place) where
+  abbrev from_words : Option Code → Path → Trip
+  from_words fault path = unless_fault fault (travel T where_to.base path Parent)
 
-  abbrev after_words : Path → Effect
-  after_words path = unless_fault (node_fault task.config task.node) (at_parent path)
+  by_fault : (fault : Option Code) (path : Path) → make_at C T server stamp node (from_words fault path).end ≡ or_fault fault (make_at C T server stamp node (resolve T where_to.base path Parent))
+  by_fault None path = refl
+  by_fault (Some code) path = refl
 
-  begins : (stage : Stage) → IsBegun task.config where_to task.node stage → effect_at task stage T ≡ wanted task.config T task.server task.stamp task.node where_to
-  begins (Refused code) (inl fault) = sym (ap (λ r. on_path r after_words) fault)
-  begins (Refused code) (inr fault) = sym (ap (λ r. on_path r after_words) fault.1 ∙ ap (λ o. unless_fault o (at_parent fault.0)) fault.2)
-  begins (Walking walk) begun =
-      let start = begun.0 in
-      ap (λ (trip : Trip). make_at task.config T task.server task.stamp task.node trip.end) (start.2 T)
-      ∙ sym (ap (λ r. on_path r after_words) start.1 ∙ ap (λ o. unless_fault o (at_parent start.0)) begun.1)
+  comes : (words : Result Path Code) (fault : Option Code) → make_at C T server stamp node (on_words words (from_words fault)).end ≡ on_path words (λ path. or_fault fault (make_at C T server stamp node (resolve T where_to.base path Parent)))
+  comes (Err code) fault = refl
+  comes (Ok path) fault = by_fault fault path
 
-pub begins_so : (task : CreateTask) (q : Request) (where_to : Place) → task.server ≡ q.server → task.stamp ≡ q.stamp → IsMade q.call where_to task.node → IsBegun task.config where_to task.node task.stage
-    → (T : Tree) → effect_at task task.stage T ≡ effect_of task.config T q q.call
-begins_so task q where_to server stamp is begun T =
-    begins task where_to T task.stage begun
-    ∙ (λ i. wanted task.config T (server i) (stamp i) task.node where_to)
-    ∙ is_wanted task.config T q q.call where_to task.node is
+is_areas : (C : Settings) (T : Tree) (server : ℕ) (what : Call) (where_to : Place) (node : NewNode) → IsMade what where_to node → makes C T server where_to node ≡ call_areas C T server what
+is_areas C T server (calls.Mkdir from mode layout) where_to node is = λ i. makes C T server (is.0 i) (is.1 i)
+is_areas C T server (calls.Create from mode layout) where_to node is = λ i. makes C T server (is.0 i) (is.1 i)
+is_areas C T server (calls.Symlink from target) where_to node is = λ i. makes C T server (is.0 i) (is.1 i)
+is_areas C T server what where_to node is = absurd is
+
+module _ (task : CreateTask) (q : Request) (where_to : Place) (server : task.server ≡ q.server) (stamp : task.stamp ≡ q.stamp) (is : IsMade q.call where_to task.node)
+    (starts : (T : Tree) → trip_at task.stage T ≡ trip_from where_to Parent (node_fault task.config task.node) T) where
+  pub begins_so : (T : Tree) → effect_of task T ≡ effect task.config T q
+  begins_so T =
+      ap (λ (trip : Trip). make_at task.config T task.server task.stamp task.node trip.end) (starts T)
+      ∙ comes task.config T task.server task.stamp task.node where_to (path_of where_to.text) (node_fault task.config task.node)
+      ∙ (λ i. wanted task.config T (server i) (stamp i) task.node where_to)
+      ∙ is_wanted task.config T q q.call where_to task.node is
+
+  pub begins_areas : (T : Tree) → areas_of task T ≡ call_areas task.config T q.server q.call
+  begins_areas T =
+      ap (λ (trip : Trip). trip_areas trip (child_at task.server T)) (starts T)
+      ∙ (λ i. makes task.config T (server i) where_to task.node)
+      ∙ is_areas task.config T q.server q.call where_to task.node is
 
 -- ---- numbers in their ranges
 
@@ -112,10 +128,10 @@ part_told new.Dir ok none = tt
 part_told new.File ok none = tt
 part_told (new.Link target) ok none = and_from (text.fits target) (is_ok (path_of target)) ok (path_told (path_of target) none)
 
-walk_ready : (task : CreateTask) (where_to : Place) (stage : Stage) → IsTarget task.node.part → IsBegun task.config where_to task.node stage → IsWalkReady task stage
-walk_ready task where_to (Refused code) ok begun = tt
-walk_ready task where_to (Walking walk) ok begun =
-    let none = no_fault (part_fault task.node.part) (layout_fault task.config task.node.layout) begun.1 in
+walk_ready : (task : CreateTask) (stage : Stage) → IsTarget task.node.part → IsClear (node_fault task.config task.node) stage → IsWalkReady task stage
+walk_ready task (Refused code) ok clear = tt
+walk_ready task (Walking walk) ok clear =
+    let none = no_fault (part_fault task.node.part) (layout_fault task.config task.node.layout) clear in
     record { layout = layout_told (is_layout task.config task.node.layout) none.1; part = part_told task.node.part ok none.0 }
 
 small_stamp : (stamp : ℕ) (what : Call) → IsTrue (is_call (stamp, what)) → stamp < 2 ^ 53
@@ -152,13 +168,13 @@ call_told stamp (calls.Symlink from target) where_to node fits is =
     node_told node (new_link target) is.1 (omega arith) (and_parts (place.fits from) (text.fits target) (and_parts (time.fits stamp) (place.fits from && text.fits target) fits).1).1
 call_told stamp what where_to node fits is = absurd is
 
-pub begins_ready : (task : CreateTask) (q : Request) (where_to : Place) → IsRequest task.config q → task.config.servers ≤ 16 → task.server ≡ q.server → task.stamp ≡ q.stamp → IsMade q.call where_to task.node → IsBegun task.config where_to task.node task.stage → IsReady task
-begins_ready task q where_to valid few server stamp is begun =
+pub begins_ready : (task : CreateTask) (q : Request) (where_to : Place) → IsRequest task.config q → task.config.servers ≤ 16 → task.server ≡ q.server → task.stamp ≡ q.stamp → IsMade q.call where_to task.node → IsClear (node_fault task.config task.node) task.stage → IsReady task
+begins_ready task q where_to valid few server stamp is clear =
     let told = call_told q.stamp q.call where_to task.node valid.call is in
     let less = valid.server in
     record {
       server = omega arith;
       mode = told.mode_small;
       stamp = subst (λ n. n < 2 ^ 53) (sym stamp) (small_stamp q.stamp q.call valid.call);
-      walking = walk_ready task where_to task.stage told.target_is begun;
+      walking = walk_ready task task.stage told.target_is clear;
     }

@@ -20,11 +20,11 @@ use Rattle.tree_model.specs.Creating.{id_of, part_for, with_child, add_numbered,
 use Rattle.tree_model.specs.Effects.{Effect, Makes, refuses}
 use Rattle.tree_model.specs.Tree.{next_at, node_with}
 use Rattle.tree_model.proofs.MapLaws.{some_or_none, same_some}
-use Rattle.row_tree.specs.Steps.{with_node}
+use Rattle.row_tree.specs.Steps.{MayAdd, with_node}
 use Rattle.row_tree.specs.TreeOf.{tree_of, node_of, node_part}
 use Rattle.row_tree.specs.TypedRows.{TypedRows, kind_of, parent_of}
 use Rattle.row_tree.specs.WellFormed.{IsWellFormed, HasKind, FitsConfig}
-use Rattle.row_tree.proofs.Adding.{adds_node, tree_with_node}
+use Rattle.row_tree.proofs.Adding.{adds_node, next_is_free, tree_with_node}
 use Rattle.row_tree.proofs.Telling.{entry_is, node_is}
 
 -- what is no directory has no entry
@@ -93,12 +93,16 @@ module _ (C : Settings) (S : TypedRows) (good : IsWellFormed C S) (server stamp 
         ∙ ap (λ b. cond b (refuses (codes.AtLimit Inodes)) (added (next_at S.next server) (new_node (next_at S.next server)))) (eq-eqb (next_at S.next server) 4294967295 full)
 
     -- the new row, at the id that the number gives
-    pub make_one : (number : ℕ) → next_at S.next server ≡ number → number ≢ 4294967295 → (new : InodeRow)
-        → node_of new ≡ new_node number
-        → server < 16 → new.links ≡ 1 → FitsConfig C (id_of number server) new.part → (kind_of new.part ≡ kinds.Dir → parent_of new.part ≡ Some dir)
-        → IsWellFormed C (with_node S server dir name new) × (made ≡ Makes (tree_of (with_node S server dir name new)) (Made (id_of number server)))
-    make_one number is below new node_is_new few one fits inside = (
-      adds_node C S good server dir name new (record {
+    module _ (number : ℕ) (is : next_at S.next server ≡ number) (below : number ≢ 4294967295) (new : InodeRow) (few : server < 16) (one : new.links ≡ 1) (fits : FitsConfig C (id_of number server) new.part)
+        (inside : kind_of new.part ≡ kinds.Dir → parent_of new.part ≡ Some dir) where
+      room : next_at S.next server + 1 < 2 ^ 32
+      room = elim (some_or_none (get S.next server)) [
+        | inl none ↦ subst (λ m. m + 1 < 2 ^ 32) (sym (ap (λ o. unwrap_or o 1) none)) (omega arith)
+        | inr has ↦ let range = good.numbers server has.0 has.1 in let value = ap (λ o. unwrap_or o 1) has.1 in let small = range.1 in let apart : next_at S.next server ≢ 4294967295 = (λ e. below (sym is ∙ e)) in omega arith
+      ]
+
+      may_add : MayAdd C S server dir name new
+      may_add = record {
         in_range = few;
         room = room;
         parent = (row, at, ap kind_of is_dir);
@@ -106,16 +110,18 @@ module _ (C : Settings) (S : TypedRows) (good : IsWellFormed C S) (server stamp 
         one = one;
         fits = subst (λ (x : ℕ). FitsConfig C (id_of x server) new.part) (sym is) fits;
         inside = inside;
-      }),
-      make_here
-          ∙ ap (λ b. cond b (refuses (codes.AtLimit Inodes)) (added (next_at S.next server) (new_node (next_at S.next server)))) (ne_eqb (next_at S.next server) 4294967295 (λ e. below (sym is ∙ e)))
-          ∙ ap (λ x. added x (new_node x)) is
-          ∙ ap (λ x. added number x) (sym node_is_new)
-          ∙ ap (λ x. Makes x (Made (id_of number server))) (sym (tree_with_node S server dir name new)),
-    )
-      where
-        room : next_at S.next server + 1 < 2 ^ 32
-        room = elim (some_or_none (get S.next server)) [
-          | inl none ↦ subst (λ m. m + 1 < 2 ^ 32) (sym (ap (λ o. unwrap_or o 1) none)) (omega arith)
-          | inr has ↦ let range = good.numbers server has.0 has.1 in let value = ap (λ o. unwrap_or o 1) has.1 in let small = range.1 in let apart : next_at S.next server ≢ 4294967295 = (λ e. below (sym is ∙ e)) in omega arith
-        ]
+      }
+
+      -- no row stands there yet
+      pub id_is_free : get S.inodes (id_of number server) ≡ None
+      id_is_free = subst (λ (x : ℕ). get S.inodes (id_of x server) ≡ None) is (next_is_free C S good server dir name new may_add)
+
+      pub make_one : node_of new ≡ new_node number → IsWellFormed C (with_node S server dir name new) × (made ≡ Makes (tree_of (with_node S server dir name new)) (Made (id_of number server)))
+      make_one node_is_new = (
+        adds_node C S good server dir name new may_add,
+        make_here
+            ∙ ap (λ b. cond b (refuses (codes.AtLimit Inodes)) (added (next_at S.next server) (new_node (next_at S.next server)))) (ne_eqb (next_at S.next server) 4294967295 (λ e. below (sym is ∙ e)))
+            ∙ ap (λ x. added x (new_node x)) is
+            ∙ ap (λ x. added number x) (sym node_is_new)
+            ∙ ap (λ x. Makes x (Made (id_of number server))) (sym (tree_with_node S server dir name new)),
+      )

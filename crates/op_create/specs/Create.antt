@@ -1,22 +1,27 @@
--- What a call that makes a node comes to while it is under way, and what it may still read.
-use Rattle.std.specs.Prelude.{◌≡◌, ◌^◌, ◌<◌, IsTrue, true, List, []}
+-- What a call that makes a node comes to while it is under way, and what it still reads.
+use Rattle.std.specs.Prelude.{◌≡◌, ◌^◌, ◌<◌, IsTrue, true, List}
 use Rattle.byte_fields.specs.Fields.{path_text}
-use Rattle.conflict_sets.specs.declared.sets.RangeRead.{RangeRead}
 use Rattle.conflict_sets.specs.declared.sets.ReadSet.{ReadSet}
 use Rattle.fs_base.specs.declared.call.Call.{Call}
 use Rattle.fs_base.specs.declared.call.Call.TheVariants as calls
+use Rattle.row_tree.specs.TypedRows.{TypedRows}
+use Rattle.row_tree.specs.WellFormed.{IsWellFormed}
 use Rattle.tree_model.specs.declared.new_node.NewPart.{NewPart}
 use Rattle.tree_model.specs.declared.new_node.NewPart.TheVariants as new
+use Rattle.tree_model.specs.declared.walk.Walked.{Walked}
 use Rattle.tree_model.specs.Creating.{is_layout, make_at}
-use Rattle.tree_model.specs.Effects.{Effect, refuses}
+use Rattle.tree_model.specs.Effects.{Effect}
 use Rattle.tree_model.specs.Tree.{Tree}
-use Rattle.path_walk.specs.Areas.{Area, trip_areas}
+use Rattle.txn_task.specs.Agreeing.{Agrees}
+use Rattle.txn_task.specs.Transactions.{Transaction}
+use Rattle.txn_task.specs.declared.messages.OpStep.{OpStep}
+use Rattle.path_walk.specs.Areas.{Area}
 use Rattle.path_walk.specs.Footprint.{child_at}
-use Rattle.path_walk.specs.Walks.{trip_of, outcome_of, IsWalkStep}
-use Rattle.path_walk.specs.declared.walk.WalkStep.{WalkStep}
+use Rattle.path_walk.specs.Owed.{HasDone}
+use Rattle.path_walk.specs.Stages.{does, looks, trip_at}
+use Rattle.path_walk.specs.declared.stage.Stage.{Stage}
+use Rattle.path_walk.specs.declared.stage.Stage.TheVariants.{Refused, Walking}
 use Rattle.op_create.specs.declared.task.CreateTask.{CreateTask}
-use Rattle.op_create.specs.declared.task.Stage.{Stage}
-use Rattle.op_create.specs.declared.task.Stage.TheVariants.{Refused, Walking}
 
 -- the calls of this task
 abbrev pub IsCreateCall : Call → Type 0
@@ -25,28 +30,19 @@ IsCreateCall (calls.Create place mode layout) = Unit {0}
 IsCreateCall (calls.Symlink place target) = Unit {0}
 IsCreateCall _ = ⊥
 
-abbrev pub effect_at : CreateTask → Stage → Tree → Effect
-effect_at task (Refused code) T = refuses code
-effect_at task (Walking walk) T = make_at task.config T task.server task.stamp task.node (outcome_of walk T)
-
-abbrev pub areas_at : CreateTask → Stage → Tree → List Area
-areas_at task (Refused code) T = []
-areas_at task (Walking walk) T = trip_areas (trip_of walk T) (child_at task.server)
+-- what the call does where its way ends
+abbrev pub made_at : CreateTask → Tree → Walked → Effect
+made_at task T walked = make_at task.config T task.server task.stamp task.node walked
 
 abbrev pub effect_of : CreateTask → Tree → Effect
-effect_of task = effect_at task task.stage
+effect_of task = does (made_at task) (trip_at task.stage)
 
 abbrev pub areas_of : CreateTask → Tree → List Area
-areas_of task = areas_at task task.stage
+areas_of task = looks (child_at task.server) (trip_at task.stage)
 
--- no range is read
-abbrev pub HasAsked : CreateTask → List RangeRead → Type 0
-HasAsked task ranges = ranges ≡ []
-
--- what the walk's last step tells
-abbrev pub IsStepOf : Stage → WalkStep → ReadSet → Type 0
-IsStepOf (Refused code) step reads = ⊥
-IsStepOf (Walking walk) step reads = IsWalkStep step walk reads
+-- a step there
+abbrev pub IsEndStep : CreateTask → Walked → Transaction → Transaction → OpStep → Type 0
+IsEndStep task walked before after s = HasDone task.config (λ T. child_at task.server T walked) (λ T. made_at task T walked) before after s
 
 -- ---- what the row of the new node asks
 
@@ -70,3 +66,7 @@ pub record IsReady (task : CreateTask) : Type 0 where
   pub mode : task.node.mode < 4096
   pub stamp : task.stamp < 2 ^ 53
   pub walking : IsWalkReady task task.stage
+
+-- where well-formed rows agree with the reads, the way has come past the words
+abbrev pub HasComeTo : CreateTask → ReadSet → Type 0
+HasComeTo task reads = (S : TypedRows) → IsWellFormed task.config S → Agrees S reads → IsMaking task

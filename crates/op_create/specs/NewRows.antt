@@ -1,18 +1,17 @@
 -- The rows of a new node, and what is known before they are put.
-use Rattle.std.specs.Prelude.{◌≡◌, ℕ, ◌+◌, List, Some, None}
+use Rattle.std.specs.Prelude.{◌≡◌, ℕ, ◌+◌, List, [], ◌∷◌, Option, Some, None}
 use Rattle.std.specs.FinMap.{get}
 use Rattle.conflict_sets.specs.declared.sets.ReadSet.{ReadSet}
-use Rattle.conflict_sets.specs.declared.sets.Write.{Write}
 use Rattle.fs_base.specs.Config.{Settings, layout_at}
 use Rattle.fs_base.specs.declared.kind.Kind.TheVariants as kinds
 use Rattle.fs_base.specs.declared.layout.DefaultLayout.{DefaultLayout}
-use Rattle.inode_record.specs.Inode.{spelled_inode}
 use Rattle.inode_record.specs.declared.inode.InodePart.{InodePart}
 use Rattle.inode_record.specs.declared.inode.InodePart.TheVariants as parts
 use Rattle.inode_record.specs.declared.inode.InodeRow.{InodeRow}
-use Rattle.key_schema.specs.Keys.{spelled_key}
+use Rattle.key_schema.specs.declared.key.Key.{Key}
 use Rattle.key_schema.specs.declared.key.Key.TheVariants as keys
-use Rattle.row_records.specs.Rows.{spelled_dent, spelled_alloc}
+use Rattle.row_records.specs.declared.rows.DentRow.{DentRow}
+use Rattle.row_tree.specs.Values.{Value, AllocValue, DentValue, InodeValue}
 use Rattle.row_tree.specs.TypedRows.{TypedRows, kind_of}
 use Rattle.row_tree.specs.WellFormed.{IsWellFormed, HasKind}
 use Rattle.tree_model.specs.declared.new_node.NewNode.{NewNode}
@@ -21,10 +20,7 @@ use Rattle.tree_model.specs.declared.new_node.NewPart.TheVariants as new
 use Rattle.tree_model.specs.Creating.{id_of, first_hint}
 use Rattle.tree_model.specs.Tree.{next_at}
 use Rattle.txn_task.specs.Agreeing.{Agrees}
-use Rattle.txn_task.specs.Wanted.{IsUnread}
-use Rattle.txn_task.specs.Writes.{set_write}
-use Rattle.txn_task.specs.declared.messages.OpStep.{OpStep}
-use Rattle.txn_task.specs.declared.messages.OpStep.TheVariants as steps
+use Rattle.txn_task.specs.Wanted.{IsUnread, IsKeyRead}
 use Rattle.op_create.specs.declared.next.InDir.{InDir}
 use Rattle.op_create.specs.declared.next.InDir.TheVariants as found
 use Rattle.op_create.specs.declared.task.CreateTask.{CreateTask}
@@ -49,17 +45,16 @@ new_row C node stamp id dir layout = record {
   part = row_part C node.part id dir layout;
 }
 
--- the writes with the inode's row, the entry that leads to it, and the server's next number raised
-abbrev pub row_writes : ℕ → ℕ → List ℕ → ℕ → ℕ → InodeRow → List Write → List Write
-row_writes server dir name number id row writes =
-    set_write (spelled_key (keys.Alloc server)) (Some (spelled_alloc (record { next = number + 1 })))
-    (set_write (spelled_key (keys.Dent dir name)) (Some (spelled_dent (record { inode = id; kind = kind_of row.part })))
-    (set_write (spelled_key (keys.Inode id)) (Some (spelled_inode row)) writes))
+-- the entry that leads to it
+abbrev pub new_entry : ℕ → InodeRow → DentRow
+new_entry id row = record { inode = id; kind = kind_of row.part }
 
-abbrev pub node_writes : CreateTask → ℕ → List ℕ → DefaultLayout → ℕ → List Write → List Write
-node_writes task dir name layout number writes =
+-- the inode's row, the entry, and the server's next number raised; the last put stands first
+abbrev pub node_puts : CreateTask → ℕ → List ℕ → DefaultLayout → ℕ → List (Key × Option Value)
+node_puts task dir name layout number =
     let id = id_of number task.server in
-    row_writes task.server dir name number id (new_row task.config task.node task.stamp id dir layout) writes
+    let row = new_row task.config task.node task.stamp id dir layout in
+    (keys.Alloc task.server, Some (AllocValue (number + 1))) ∷ (keys.Dent dir name, Some (DentValue (new_entry id row))) ∷ (keys.Inode id, Some (InodeValue row)) ∷ []
 
 -- ---- what is known of the directory
 
@@ -68,22 +63,19 @@ pub record HasDefault (reads : ReadSet) (dir : ℕ) (layout : DefaultLayout) : T
   pub parent : ℕ
   pub row : InodeRow
   pub is_dir : row.part ≡ parts.Dir parent layout.chunk layout.stripe
+  pub seen : IsKeyRead reads (keys.Inode dir)
   pub there : (S : TypedRows) → Agrees S reads → get S.inodes dir ≡ Some row
 
 -- its row is still to be asked for, or no well-formed rows that agree have a directory there, or all have one with this default
 abbrev pub IsInDir : InDir → ReadSet → ℕ → Type 0
 IsInDir (found.Ask key) reads dir = (key ≡ keys.Inode dir) × IsUnread reads (keys.Inode dir)
-IsInDir found.NotDir reads dir = (C : Settings) (S : TypedRows) → IsWellFormed C S → Agrees S reads → HasKind S dir kinds.Dir → ⊥
+IsInDir found.NotDir reads dir = IsKeyRead reads (keys.Inode dir) × ((C : Settings) (S : TypedRows) → IsWellFormed C S → Agrees S reads → HasKind S dir kinds.Dir → ⊥)
 IsInDir (found.Default layout) reads dir = HasDefault reads dir layout
 
 -- the directory has this default, the name is free in it, and the server's next number is this
 pub record MayMake (task : CreateTask) (reads : ReadSet) (dir : ℕ) (name : List ℕ) (default : DefaultLayout) (number : ℕ) : Type 0 where
   pub in_dir : HasDefault reads dir default
+  pub seen_name : IsKeyRead reads (keys.Dent dir name)
+  pub seen_next : IsKeyRead reads (keys.Alloc task.server)
   pub free : (S : TypedRows) → Agrees S reads → get S.dents (dir, name) ≡ None
   pub next : (S : TypedRows) → Agrees S reads → next_at S.next task.server ≡ number
-
--- no more is asked
-abbrev pub HasEnded : OpStep → Type 0
-HasEnded (steps.Ask ask) = ⊥
-HasEnded (steps.Reply reply) = Unit {0}
-HasEnded (steps.Commit reply asked) = Unit {0}

@@ -5,4 +5,4 @@ mod next;
 mod rows;
 mod task;
 
-pub use task::{CreateTask, Stage};
+pub use task::CreateTask;

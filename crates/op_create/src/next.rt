@@ -1,21 +1,18 @@
-ghost use Rattle.std.specs.Prelude.{◌≡◌, [], IfOk, OnOk};
-ghost use Rattle.tree_model.specs.Creating.{make_at};
+ghost use Rattle.std.specs.Prelude.{◌≡◌, [], true, false, IfOk, OnOk, OnErr};
 ghost use Rattle.tree_model.specs.declared.walk.Walked.TheVariants.{AtParent};
-ghost use Rattle.path_walk.specs.Footprint.{child_at};
-ghost use Rattle.path_walk.specs.Owed.{IsOpStep, KeepsEffect, KeepsAreas, GoesOn, LeavesWrites};
-ghost use Rattle.path_walk.specs.Walks.{IsWalkStep};
-ghost use Rattle.txn_task.specs.declared.messages.Ask.TheVariants as asks;
-ghost use Rattle.txn_task.specs.declared.messages.OpStep.TheVariants as steps;
-ghost use Rattle.fs_base.specs.declared.reply.Reply.TheVariants.{Refused};
-ghost use Rattle.op_create.specs.Create.{IsStepOf, IsMaking, IsReady, HasAsked, areas_of, effect_of};
+ghost use Rattle.path_walk.specs.Owed.{HasStepped};
+ghost use Rattle.path_walk.specs.Stages.{trip_at};
+ghost use Rattle.path_walk.specs.Walks.{HasEnd};
+ghost use Rattle.op_create.specs.Create.{IsEndStep, IsReady, HasComeTo, areas_of, effect_of};
 ghost use Rattle.op_create.specs.NewRows.{IsInDir};
 
-use crate::task::{CreateTask, Stage};
+use crate::task::CreateTask;
 use fs_base::{Code, DefaultLayout, InodeId, Memory, Name, Reply};
 use inode_record::InodePart;
 use key_schema::Key;
-use path_walk::WalkStep;
+use path_walk::{Reached, forget};
 use std::alloc::Global;
+use tree_model::Walked;
 use txn_task::{Answer, Ask, OpStep, Txn, Want, want_alloc, want_dent, want_inode};
 
 /// What is known of the directory that a node is made in.
@@ -27,21 +24,6 @@ pub(crate) enum InDir {
     NotDir,
     /// The layout of what is made in it.
     Default(DefaultLayout),
-}
-
-/// What was answered stands in the transaction already.
-fn forget(_answer: Answer) {}
-
-fn ask(key: Key) -> OpStep
-    ensures { result ≡ steps.Ask (asks.Get key) }
-{
-    OpStep::Ask(Ask::Get(key))
-}
-
-fn refuse(code: Code) -> OpStep
-    ensures { result ≡ steps.Reply (Refused code) }
-{
-    OpStep::Reply(Reply::Refused(code))
 }
 
 fn in_dir(alloc: Global, txn: &Txn, dir: InodeId) -> Result<InDir, Memory>
@@ -64,71 +46,86 @@ fn in_dir(alloc: Global, txn: &Txn, dir: InodeId) -> Result<InDir, Memory>
 impl CreateTask {
     /// On with what has been read. The answer to the last ask stands among the reads.
     ///
-    /// Where memory runs out the task may be left anywhere.
+    /// Once memory ran out the answer is want of memory from then on.
     pub fn next(&mut self, alloc: Global, answer: Answer, txn: &mut Txn) -> Result<OpStep, Memory>
         requires ready { IsReady self.old }
         requires writes { txn.old.writes ≡ [] }
-        requires asked { HasAsked self.old txn.old.reads.ranges }
         ensures config { OnOk result (self.new.config ≡ self.old.config) }
         ensures ready { OnOk result (IsReady self.new) }
-        ensures reads { OnOk result ((txn.new.reads ≡ txn.old.reads) × (txn.new.snapshot ≡ txn.old.snapshot)) }
-        ensures keeps { OnOk result (KeepsEffect self.old.config (effect_of self.old) (effect_of self.new) txn.old.reads) }
-        ensures areas { OnOk result (KeepsAreas self.old.config (areas_of self.old) (areas_of self.new) txn.old.reads) }
-        ensures step { IfOk result (λ s. IsOpStep self.old.config (areas_of self.new) (effect_of self.new) txn.new s) }
-        ensures asked { IfOk result (λ s. GoesOn (HasAsked self.new) txn.new.reads.ranges s) }
-        ensures unwritten { IfOk result (λ s. LeavesWrites s txn.new.writes) }
+        ensures step { IfOk result (HasStepped self.old.config (areas_of self.old) (areas_of self.new) (effect_of self.old) (effect_of self.new) txn.old txn.new) }
+        ensures alive { OnOk result ((self.old.failed ≡ false) × (self.new.failed ≡ false)) }
+        ensures err { OnErr result (self.new.failed ≡ true) }
     {
         forget(answer);
-        let step = match &mut self.stage {
-            Stage::Refused(code) => return Ok(refuse(*code)),
-            Stage::Walking(walk) => walk.next(alloc, txn)?,
-        };
-        self.follow(alloc, txn, step)
+        if self.failed {
+            return Err(Memory);
+        }
+        match self.go_on(alloc, txn) {
+            Ok(step) => {
+                self.failed = false;
+                Ok(step)
+            }
+            Err(Memory) => {
+                self.failed = true;
+                Err(Memory)
+            }
+        }
     }
 
-    /// What follows the walk's step.
-    fn follow(&self, alloc: Global, txn: &mut Txn, step: WalkStep) -> Result<OpStep, Memory>
+    /// The walk, and what is made where it ends.
+    fn go_on(&mut self, alloc: Global, txn: &mut Txn) -> Result<OpStep, Memory>
+        requires ready { IsReady self.old }
+        requires writes { txn.old.writes ≡ [] }
+        ensures config { OnOk result (self.new.config ≡ self.old.config) }
+        ensures ready { OnOk result (IsReady self.new) }
+        ensures step { IfOk result (HasStepped self.old.config (areas_of self.old) (areas_of self.new) (effect_of self.old) (effect_of self.new) txn.old txn.new) }
+    {
+        match self.stage.next(alloc, txn)? {
+            Reached::Ask(ask) => Ok(OpStep::Ask(ask)),
+            Reached::End(walked) => {
+                let step = self.at_end(alloc, txn, walked)?;
+                Ok(step)
+            }
+        }
+    }
+
+    /// What the call does where its walk ends.
+    fn at_end(&self, alloc: Global, txn: &mut Txn, walked: Walked) -> Result<OpStep, Memory>
         requires ready { IsReady self.now }
         requires writes { txn.old.writes ≡ [] }
-        requires asked { txn.old.reads.ranges ≡ [] }
-        requires step { IsStepOf self.now.stage step txn.old.reads }
-        ensures reads { OnOk result ((txn.new.reads ≡ txn.old.reads) × (txn.new.snapshot ≡ txn.old.snapshot)) }
-        ensures step { IfOk result (λ s. IsOpStep self.now.config (areas_of self.now) (effect_of self.now) txn.new s) }
-        ensures asked { IfOk result (λ s. GoesOn (HasAsked self.now) txn.new.reads.ranges s) }
-        ensures unwritten { IfOk result (λ s. LeavesWrites s txn.new.writes) }
+        requires end { HasEnd (trip_at self.now.stage) txn.old.reads walked }
+        ensures { IfOk result (IsEndStep self.now walked txn.old txn.new) }
     {
-        match step {
-            WalkStep::Ask(ask) => Ok(OpStep::Ask(ask)),
-            WalkStep::At(_, _) => Ok(refuse(Code::Exists)),
-            WalkStep::NoName(_) => Ok(refuse(Code::Exists)),
-            WalkStep::Refused(code) => Ok(refuse(code)),
-            WalkStep::Parent(dir, name) => self.make(alloc, txn, dir, name),
+        match walked {
+            Walked::At(_, _) => Ok(OpStep::Reply(Reply::Refused(Code::Exists))),
+            Walked::NoName(_) => Ok(OpStep::Reply(Reply::Refused(Code::Exists))),
+            Walked::Stopped(code) => Ok(OpStep::Reply(Reply::Refused(code))),
+            Walked::AtParent(dir, name) => {
+                let step = self.make(alloc, txn, dir, name)?;
+                Ok(step)
+            }
         }
     }
 
     /// In the directory where the walk has come.
     fn make(&self, alloc: Global, txn: &mut Txn, dir: InodeId, name: Name) -> Result<OpStep, Memory>
         requires ready { IsReady self.now }
-        requires making { IsMaking self.now }
+        requires come { HasComeTo self.now txn.old.reads }
         requires writes { txn.old.writes ≡ [] }
-        requires asked { txn.old.reads.ranges ≡ [] }
-        ensures reads { OnOk result ((txn.new.reads ≡ txn.old.reads) × (txn.new.snapshot ≡ txn.old.snapshot)) }
-        ensures step { IfOk result (λ s. IsOpStep self.now.config (λ T. child_at self.now.server (AtParent dir name)) (λ T. make_at self.now.config T self.now.server self.now.stamp self.now.node (AtParent dir name)) txn.new s) }
-        ensures asked { IfOk result (λ s. GoesOn (HasAsked self.now) txn.new.reads.ranges s) }
-        ensures unwritten { IfOk result (λ s. LeavesWrites s txn.new.writes) }
+        ensures { IfOk result (IsEndStep self.now (AtParent dir name) txn.old txn.new) }
     {
         let default = match in_dir(alloc, txn, dir)? {
-            InDir::Ask(key) => return Ok(ask(key)),
-            InDir::NotDir => return Ok(refuse(Code::NotDir)),
+            InDir::Ask(key) => return Ok(OpStep::Ask(Ask::Get(key))),
+            InDir::NotDir => return Ok(OpStep::Reply(Reply::Refused(Code::NotDir))),
             InDir::Default(layout) => layout,
         };
         match want_dent(alloc, txn, dir, &name)? {
-            Want::Ask(key) => return Ok(ask(key)),
-            Want::There(_) => return Ok(refuse(Code::Exists)),
+            Want::Ask(key) => return Ok(OpStep::Ask(Ask::Get(key))),
+            Want::There(_) => return Ok(OpStep::Reply(Reply::Refused(Code::Exists))),
             Want::Absent => {}
         }
         match want_alloc(alloc, txn, self.server)? {
-            Want::Ask(key) => Ok(ask(key)),
+            Want::Ask(key) => Ok(OpStep::Ask(Ask::Get(key))),
             Want::Absent => self.put(alloc, txn, dir, &name, default, 1),
             Want::There(number) => self.put(alloc, txn, dir, &name, default, number),
         }

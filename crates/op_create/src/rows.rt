@@ -1,36 +1,18 @@
-ghost use Rattle.std.specs.Prelude.{◌≡◌, ◌^◌, ◌<◌, ◌≤◌, [], Some, unwrap_or, IfOk, OnOk, IsTrue};
+ghost use Rattle.std.specs.Prelude.{◌≡◌, ◌^◌, ◌<◌, ◌≤◌, [], unwrap_or, IfOk, OnOk, IsTrue};
 ghost use Rattle.fs_base.specs.Names.{is_name};
-ghost use Rattle.inode_record.specs.Inode.{spelled_inode};
-ghost use Rattle.key_schema.specs.Keys.{spelled_key};
-ghost use Rattle.key_schema.specs.declared.key.Key.TheVariants as keys;
-ghost use Rattle.row_records.specs.Rows.{spelled_dent, spelled_alloc};
-ghost use Rattle.row_tree.specs.TypedRows.{kind_of};
-ghost use Rattle.tree_model.specs.Creating.{id_of, make_at};
+ghost use Rattle.tree_model.specs.Creating.{id_of};
 ghost use Rattle.tree_model.specs.declared.walk.Walked.TheVariants.{AtParent};
-ghost use Rattle.path_walk.specs.Footprint.{child_at};
-ghost use Rattle.txn_task.specs.Writes.{set_write};
-ghost use Rattle.path_walk.specs.Owed.{IsOpStep};
-ghost use Rattle.op_create.specs.Create.{IsMaking, IsReady};
-ghost use Rattle.op_create.specs.NewRows.{MayMake, HasEnded, row_part, new_row, node_writes};
+ghost use Rattle.path_walk.specs.Puts.{put_writes};
+ghost use Rattle.op_create.specs.Create.{IsEndStep, IsReady, HasComeTo};
+ghost use Rattle.op_create.specs.NewRows.{MayMake, row_part, new_row, node_puts};
 
 use crate::task::CreateTask;
-use fs_base::{Code, Config, DefaultLayout, InodeId, Items, Kind, Limit, Memory, Name, Reply};
+use fs_base::{Code, Config, DefaultLayout, InodeId, Items, Limit, Memory, Name, Reply};
 use inode_record::{InodePart, InodeRow};
-use key_schema::Key;
-use row_records::{AllocRow, DentRow};
+use row_records::DentRow;
 use std::alloc::Global;
 use tree_model::{NewPart, first_hint, layout_at};
-use txn_task::{OpStep, Txn};
-
-fn kind_of(part: &InodePart) -> Kind
-    ensures { result ≡ kind_of part.now }
-{
-    match part {
-        InodePart::Dir { .. } => Kind::Dir,
-        InodePart::File { .. } => Kind::File,
-        InodePart::Link { .. } => Kind::Link,
-    }
-}
+use txn_task::{OpStep, Txn, kind_of, put_entry, put_inode, put_next};
 
 /// A chain is one of at most 256, an inode's number below 2^36, and a name one of those that may be.
 fn in_range(config: &Config, dir: InodeId, name: &Name)
@@ -71,34 +53,6 @@ fn part_at(
     }
 }
 
-fn put_inode(alloc: Global, txn: &mut Txn, id: InodeId, row: &InodeRow) -> Result<(), Memory>
-    ensures { OnOk result (txn.new ≡ record txn.old { writes = set_write (spelled_key (keys.Inode id)) (Some (spelled_inode row.now)) txn.old.writes }) }
-{
-    let bytes = row.write(alloc)?;
-    txn.put(alloc, &Key::Inode(id), Some(bytes))
-}
-
-fn put_entry(
-    alloc: Global,
-    txn: &mut Txn,
-    dir: InodeId,
-    name: &Name,
-    entry: DentRow,
-) -> Result<(), Memory>
-    ensures { OnOk result (txn.new ≡ record txn.old { writes = set_write (spelled_key (keys.Dent dir name.now)) (Some (spelled_dent entry)) txn.old.writes }) }
-{
-    let bytes = entry.write(alloc)?;
-    let key = Key::Dent(dir, name.try_clone(alloc)?);
-    txn.put(alloc, &key, Some(bytes))
-}
-
-fn put_next(alloc: Global, txn: &mut Txn, server: u8, next: u64) -> Result<(), Memory>
-    ensures { OnOk result (txn.new ≡ record txn.old { writes = set_write (spelled_key (keys.Alloc server)) (Some (spelled_alloc (record { next = next }))) txn.old.writes }) }
-{
-    let bytes = AllocRow { next }.write(alloc)?;
-    txn.put(alloc, &Key::Alloc(server), Some(bytes))
-}
-
 impl CreateTask {
     /// The given layout, else the directory's default.
     fn chosen(&self, default: DefaultLayout) -> DefaultLayout
@@ -136,8 +90,9 @@ impl CreateTask {
     ) -> Result<InodeId, Memory>
         requires server { self.now.server < 16 }
         requires number { number < 4294967295 }
+        requires writes { txn.old.writes ≡ [] }
         ensures id { IfOk result (λ id. id ≡ id_of number self.now.server) }
-        ensures puts { OnOk result (txn.new ≡ record txn.old { writes = node_writes self.now dir name.now layout number txn.old.writes }) }
+        ensures puts { OnOk result (txn.new ≡ record txn.old { writes = put_writes (node_puts self.now dir name.now layout number) }) }
     {
         let id = InodeId::new(16 * number + u64::from(self.server));
         let row = self.row(id, dir, layout)?;
@@ -159,12 +114,10 @@ impl CreateTask {
         number: u64,
     ) -> Result<OpStep, Memory>
         requires ready { IsReady self.now }
-        requires making { IsMaking self.now }
+        requires come { HasComeTo self.now txn.old.reads }
         requires writes { txn.old.writes ≡ [] }
         requires may { MayMake self.now txn.old.reads dir name.now default number }
-        ensures reads { OnOk result ((txn.new.reads ≡ txn.old.reads) × (txn.new.snapshot ≡ txn.old.snapshot)) }
-        ensures step { IfOk result (λ s. IsOpStep self.now.config (λ T. child_at self.now.server (AtParent dir name.now)) (λ T. make_at self.now.config T self.now.server self.now.stamp self.now.node (AtParent dir name.now)) txn.new s) }
-        ensures ended { IfOk result HasEnded }
+        ensures { IfOk result (IsEndStep self.now (AtParent dir name.now) txn.old txn.new) }
     {
         if number >= 4_294_967_295 {
             return Ok(OpStep::Reply(Reply::Refused(Code::AtLimit(Limit::Inodes))));

@@ -1,27 +1,17 @@
-ghost use Rattle.std.specs.Prelude.{◌≡◌, ◌≤◌, [], IfOk};
-ghost use Rattle.conflict_sets.specs.declared.sets.RangeRead.{RangeRead};
+ghost use Rattle.std.specs.Prelude.{◌≡◌, ◌≤◌, IfOk};
 ghost use Rattle.fs_base.specs.Paths.{path_of};
 ghost use Rattle.tree_model.specs.Calls.{effect};
 ghost use Rattle.tree_model.specs.Tree.{Tree};
-ghost use Rattle.path_walk.specs.Areas.{Area, IsArea};
+ghost use Rattle.path_walk.specs.Faults.{node_fault, part_fault, refusal};
 ghost use Rattle.path_walk.specs.Footprint.{call_areas};
 ghost use Rattle.path_walk.specs.Requests.{IsRequest};
-ghost use Rattle.op_create.specs.Beginning.{IsBegun, IsMade, node_fault, part_fault, refusal};
-ghost use Rattle.op_create.specs.Create.{IsCreateCall, IsReady, HasAsked, areas_of, effect_of};
+ghost use Rattle.op_create.specs.Beginning.{IsMade};
+ghost use Rattle.op_create.specs.Create.{IsCreateCall, IsReady, areas_of, effect_of};
 
 use fs_base::{Call, Code, Config, Memory, Place, Request, Text};
-use path_walk::{Walk, WalkError};
+use path_walk::Stage;
 use std::alloc::Global;
 use tree_model::{NewNode, NewPart, WalkEnd, is_layout, path_of};
-
-/// How far a task has come.
-#[derive(Drop)]
-pub enum Stage {
-    /// The words of the call are refused.
-    Refused(Code),
-    /// On the way to the parent, or there.
-    Walking(Walk),
-}
 
 /// mkdir, create or symlink under way.
 #[derive(Drop)]
@@ -31,6 +21,8 @@ pub struct CreateTask {
     pub stamp: u64,
     pub node: NewNode,
     pub stage: Stage,
+    /// Whether memory ran out on the way.
+    pub failed: bool,
 }
 
 /// Why a link's target is no path.
@@ -68,21 +60,6 @@ fn node_fault(alloc: Global, config: &Config, node: &NewNode) -> Result<Option<C
     }
 }
 
-fn begin(alloc: Global, config: &Config, place: &Place, node: &NewNode) -> Result<Stage, Memory>
-    ensures { IfOk result (IsBegun config.now place.now node.now) }
-{
-    let walk = match Walk::new(alloc, place, WalkEnd::Parent) {
-        Ok(walk) => walk,
-        Err(WalkError::BadPath) => return Ok(Stage::Refused(Code::BadPath)),
-        Err(WalkError::BadName) => return Ok(Stage::Refused(Code::BadName)),
-        Err(WalkError::Memory) => return Err(Memory),
-    };
-    match node_fault(alloc, config, node)? {
-        Some(code) => Ok(Stage::Refused(code)),
-        None => Ok(Stage::Walking(walk)),
-    }
-}
-
 /// A server is one of at most sixteen.
 fn few_servers(config: &Config)
     ensures { config.now.servers ≤ 16 }
@@ -97,8 +74,7 @@ impl CreateTask {
         requires call { IsCreateCall request.now.call }
         ensures config { IfOk result (λ task. task.config ≡ config.now) }
         ensures effect { IfOk result (λ task. (T : Tree) → effect_of task T ≡ effect config.now T request.now) }
-        ensures areas { IfOk result (λ task. (T : Tree) (area : Area) → IsArea area (areas_of task T) → IsArea area (call_areas T request.now.server request.now.call)) }
-        ensures asked { IfOk result (λ task. HasAsked task []) }
+        ensures areas { IfOk result (λ task. (T : Tree) → areas_of task T ≡ call_areas config.now T request.now.server request.now.call) }
         ensures ready { IfOk result IsReady }
     {
         match &request.call {
@@ -132,17 +108,19 @@ impl CreateTask {
         requires made { IsMade request.now.call place.now node }
         ensures config { IfOk result (λ task. task.config ≡ config.now) }
         ensures effect { IfOk result (λ task. (T : Tree) → effect_of task T ≡ effect config.now T request.now) }
-        ensures areas { IfOk result (λ task. (T : Tree) (area : Area) → IsArea area (areas_of task T) → IsArea area (call_areas T request.now.server request.now.call)) }
+        ensures areas { IfOk result (λ task. (T : Tree) → areas_of task T ≡ call_areas config.now T request.now.server request.now.call) }
         ensures ready { IfOk result IsReady }
     {
         few_servers(config);
-        let stage = begin(alloc, config, place, &node)?;
+        let fault = node_fault(alloc, config, &node)?;
+        let stage = Stage::new(alloc, place, WalkEnd::Parent, fault)?;
         Ok(CreateTask {
             config: *config,
             server: request.server,
             stamp: request.stamp,
             node,
             stage,
+            failed: false,
         })
     }
 }
