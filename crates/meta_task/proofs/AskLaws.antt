@@ -18,7 +18,7 @@ use Rattle.meta_task.specs.declared.waiting.Waiting.TheVariants as waits
 
 -- ---- a look at rows
 
-pub looks : (known : TaskView) (w : Waiting) (ask : Ask) → w ≡ waits.Reading ask → known.begun ≡ true → IsNewAsk known.reads ask → MayAsk known.config (λ T. footprint T known.request) known.reads ask → GoesTo known (record known { waiting = w }) ask
+pub looks : (known : TaskView) (w : Waiting) (ask : Ask) → w ≡ waits.Reading ask → known.begun ≡ true → IsNewAsk known.reads ask → MayAsk known.config (λ T. footprint known.config T known.request) known.reads ask → GoesTo known (record known { waiting = w }) ask
 looks known w (asks.Get key) is begun fresh may = record { is = ap (λ (x : Waiting). record known { waiting = x }) is; begun = begun; fresh = fresh; touched = may }
 looks known w (asks.Range lo hi limit) is begun fresh may = record { is = ap (λ (x : Waiting). record known { waiting = x }) is; begun = begun; fresh = fresh; touched = may }
 looks known w ask is begun fresh may = absurd fresh
@@ -34,7 +34,7 @@ learnt_noted old (asks.Range lo hi limit) (answers.Rows rows) is fits = ap (λ (
 learnt_noted old ask answer is fits = absurd fits
 
 told_ended : (task : TaskView) (outcome : Outcome) → IsToldReply (ended task) outcome → IsToldReply task outcome
-told_ended task outcome h = record { told = h.told; new = h.new; version = h.version; mark = h.mark }
+told_ended task outcome h = record { told = h.told; new = h.new; all = h.all; version = h.version; mark = h.mark }
 
 -- ---- within an attempt
 
@@ -47,7 +47,7 @@ origin_told old answer outcome on h = absurd on
 goes : (old new : TaskView) (answer : Answer) (ask : Ask) → GoesOnAfter answer → GoesTo (ended (learnt old answer)) new ask → Asks old answer new ask
 goes old new answer (asks.Get key) on h = record { is = h.is; begun = h.begun; goes_on = on; fresh = h.fresh; touched = h.touched }
 goes old new answer (asks.Range lo hi limit) on h = record { is = h.is; begun = h.begun; goes_on = on; fresh = h.fresh; touched = h.touched }
-goes old new answer (asks.Commit entry) on h = (h.0, h.1, on, h.2, h.3, h.4)
+goes old new answer (asks.Commit entry) on h = (h.0, h.1, on, h.2, h.3, h.4, h.5)
 goes old new answer asks.Done on h =
     let is : new ≡ record (learnt old answer) { waiting = waits.Ended; outcome = Some h.0 } = h.1.0 in
     (h.0, is, h.1.1 ∙ sym (ap (λ (t : TaskView). t.conflicts) is), origin_told old answer h.0 on (told_ended (learnt old answer) h.0 h.2))

@@ -1,5 +1,5 @@
 -- What a client's kept reply tells, from the bytes that were read.
-use Rattle.std.proofs.Common.{inl, inr, ◌≡◌, ℕ, ◌<◌, ◌^◌, false, List, refl, sym, ap, subst, ◌∙◌}
+use Rattle.std.proofs.Common.{inl, inr, ◌≡◌, ℕ, ◌<◌, ◌≤◌, ◌^◌, false, List, refl, sym, ap, subst, ◌∙◌, arith}
 use Rattle.std.specs.Prelude.{Option, Some, None, Ok}
 use Rattle.std.specs.FinMap.{get}
 use Rattle.conflict_sets.specs.declared.sets.ReadSet.{ReadSet}
@@ -17,11 +17,13 @@ use Rattle.row_tree.proofs.OneValue.{kepts}
 use Rattle.tree_model.specs.Calls.{is_query}
 use Rattle.txn_task.specs.Agreeing.{Agrees}
 use Rattle.txn_task.specs.Transactions.{with_key}
+use Rattle.txn_task.specs.Wanted.{IsKeyRead}
 use Rattle.txn_task.specs.Writes.{read_of}
 use Rattle.txn_task.proofs.TellLaws.{kept_absent, kept_never, kept_there}
-use Rattle.path_walk.specs.Owed.{IsKeptBefore}
+use Rattle.path_walk.specs.Footprint.{footprint}
+use Rattle.path_walk.specs.Owed.{HasRead, IsKeptBefore}
 use Rattle.path_walk.specs.Sound.{IsJustifiedReply}
-use Rattle.path_walk.proofs.WholeLaws.{before_none, before_earlier, kept_later}
+use Rattle.path_walk.proofs.WholeLaws.{before_none, before_earlier, kept_later, kept_reads_all}
 use Rattle.meta_task.specs.Steps.{IsEarlier, IsRowOf, TellsKept, TellsRow}
 use Rattle.meta_task.specs.Task.{no_reads}
 use Rattle.meta_task.specs.declared.kept.Kept.{Kept}
@@ -55,6 +57,18 @@ pub kept_stale : (C : Settings) (q : Request) (value : Option (List ℕ)) (later
 kept_stale C q value later client update h =
     subst (λ n. IsJustifiedReply C q (kept_reads q value) (Refused (Stale n))) h.2
     (kept_later C q (kept_reads q value) h.0 update there (subst (λ n. q.number < n) (sym h.2) h.3))
+  where
+    there : (S : TypedRows) → Agrees S (kept_reads q value) → get S.kept q.client.0 ≡ Some h.0
+    there = kept_there (kept_reads q value) q.client (spelled_kept h.0) h.0 client (found_at q value ∙ ap Some h.1.found) (kepts.back h.0 h.1.fits)
+
+-- ---- what was read
+
+pub kept_read : (q : Request) (value : Option (List ℕ)) → IsKeyRead (kept_reads q value) (keys.Idem q.client)
+kept_read q value = (value, found_at q value)
+
+-- nothing more is read where the kept reply's number is greater
+pub kept_all : (C : Settings) (q : Request) (value : Option (List ℕ)) (later : ℕ) → q.client.0 < 2 ^ 128 → is_query q.call ≡ false → TellsKept value q.number (kept.Later later) → HasRead C (λ T. footprint C T q) (kept_reads q value)
+kept_all C q value later client update h = kept_reads_all C q (kept_reads q value) h.0 update there (subst (λ n. q.number ≤ n) (sym h.2) (omega (arith, h.3))) (kept_read q value)
   where
     there : (S : TypedRows) → Agrees S (kept_reads q value) → get S.kept q.client.0 ≡ Some h.0
     there = kept_there (kept_reads q value) q.client (spelled_kept h.0) h.0 client (found_at q value ∙ ap Some h.1.found) (kepts.back h.0 h.1.fits)

@@ -9,9 +9,6 @@ use Rattle.txn_task.specs.declared.messages.Answer.{Answer}
 use Rattle.txn_task.specs.declared.messages.Answer.TheVariants as answers
 use Rattle.txn_task.specs.declared.messages.Ask.{Ask}
 use Rattle.txn_task.specs.declared.messages.Ask.TheVariants as asks
-use Rattle.txn_task.specs.declared.messages.OpStep.TheVariants as steps
-use Rattle.path_walk.specs.Owed.{GoesOn}
-use Rattle.meta_task.specs.Ops.{HasAsked}
 use Rattle.meta_task.specs.State.{view_of, IsAskingKept, IsNoted, IsReading, IsUnder}
 use Rattle.meta_task.specs.Steps.{IsPending, GoesTo, Repeats}
 use Rattle.meta_task.specs.Task.{Fits, Asks, GoesOnAfter, learnt}
@@ -24,11 +21,6 @@ use Rattle.meta_task.proofs.UnderLaws.{under_more}
 
 -- ---- what is noted
 
-asked_noted : (reads : ReadSet) (ask : Ask) (answer : Answer) (op : OpTask) → Fits (waits.Reading ask) answer → GoesOn (HasAsked op) reads.ranges (steps.Ask ask) → HasAsked op (noted reads ask answer).ranges
-asked_noted reads (asks.Get key) (answers.Got got) op fits h = h
-asked_noted reads (asks.Range lo hi limit) (answers.Rows rows) op fits h = h rows
-asked_noted reads ask answer op fits h = absurd fits
-
 kept_noted : (s : State) (w : Waiting) (t : Transaction) (ask : Ask) (answer : Answer) → IsAskingKept s.request s.txn.reads ask → s.waiting ≡ waits.Reading ask → t.reads ≡ noted s.txn.reads ask answer
     → Fits (waits.Reading (asks.Get (keys.Idem s.request.client))) answer → IsNoted None s (record s { waiting = w; txn = t }) answer
 kept_noted s w t ask (answers.Got got) h waiting is fits =
@@ -37,10 +29,7 @@ kept_noted s w t ask answer h waiting is fits = absurd fits
 
 pub state_noted : (s : State) (w : Waiting) (t : Transaction) (ask : Ask) (answer : Answer) (o : Option OpTask) → IsReading s.config s.request s.txn.reads ask o → s.waiting ≡ waits.Reading ask → Fits (waits.Reading ask) answer
     → t.reads ≡ noted s.txn.reads ask answer → IsNoted o s (record s { waiting = w; txn = t }) answer
-state_noted s w t ask answer (Some op) h waiting fits is = (
-  subst (λ (r : ReadSet). IsUnder s.config s.request r op) (sym is) (under_more s.config s.request s.txn.reads ask answer op h.under),
-  subst (λ (r : ReadSet). HasAsked op r.ranges) (sym is) (asked_noted s.txn.reads ask answer op fits h.asked),
-)
+state_noted s w t ask answer (Some op) h waiting fits is = subst (λ (r : ReadSet). IsUnder s.config s.request r op) (sym is) (under_more s.config s.request s.txn.reads ask answer op h.under)
 state_noted s w t ask answer None h waiting fits is =
     kept_noted s w t ask answer h waiting is (subst (λ (a : Ask). Fits (waits.Reading a) answer) h.key fits)
 

@@ -1,13 +1,13 @@
 -- What is known of an operation under way, from step to step.
-use Rattle.std.proofs.Common.{inl, inr, ◌≡◌, Bool, true, false, cond, List, ◌∷◌, refl, sym, ap, subst, ◌∙◌}
+use Rattle.std.proofs.Common.{inl, inr, ◌≡◌, Bool, true, false, cond, List, [], ◌∷◌, ◌++◌, refl, sym, ap, subst, ◌∙◌}
 use Rattle.std.specs.Prelude.{Some}
+use Rattle.std.specs.FinMap.{get}
 use Rattle.conflict_sets.specs.declared.sets.ReadSet.{ReadSet}
 use Rattle.conflict_sets.specs.declared.sets.WriteSet.{WriteSet}
 use Rattle.fs_base.specs.Config.{Settings}
 use Rattle.fs_base.specs.declared.call.Request.{Request}
 use Rattle.fs_base.specs.declared.reply.Reply.{Reply}
 use Rattle.key_schema.specs.Keys.{spelled_key}
-use Rattle.key_schema.specs.declared.key.Key.{Key}
 use Rattle.key_schema.specs.declared.key.Key.TheVariants as keys
 use Rattle.row_tree.specs.TreeOf.{tree_of}
 use Rattle.row_tree.specs.Values.{spelled_value}
@@ -16,18 +16,20 @@ use Rattle.tree_model.specs.Effects.{at_length, settled_by}
 use Rattle.txn_task.specs.Agreeing.{Agrees}
 use Rattle.txn_task.specs.Copies.{IsLook}
 use Rattle.txn_task.specs.Transactions.{Transaction, noted}
+use Rattle.txn_task.specs.Wanted.{IsUnread}
 use Rattle.txn_task.specs.Writes.{set_write}
 use Rattle.txn_task.specs.declared.messages.Answer.{Answer}
 use Rattle.txn_task.specs.declared.messages.Ask.{Ask}
 use Rattle.txn_task.specs.declared.messages.Ask.TheVariants as asks
 use Rattle.txn_task.specs.declared.messages.Asked.{Asked}
-use Rattle.path_walk.specs.Areas.{Area, OneKey, IsArea}
-use Rattle.path_walk.specs.Footprint.{call_areas, footprint}
-use Rattle.path_walk.specs.Owed.{IsJustified, IsNewAsk, IsOpCommit, MayAsk, KeepsEffect, KeepsAreas}
+use Rattle.path_walk.specs.Areas.{Area, OneKey, IsNextOf}
+use Rattle.path_walk.specs.Footprint.{call_areas, footprint, if_new}
+use Rattle.path_walk.specs.Owed.{HasRead, IsJustified, IsNewAsk, IsOpCommit, MayAsk, KeepsEffect, KeepsAreas}
 use Rattle.path_walk.specs.Sound.{IsJustifiedReply, IsSoundEntry, kept_value}
 use Rattle.path_walk.proofs.SoundLaws.{sound_entry}
-use Rattle.path_walk.proofs.StepLaws.{reaches_more, effect_more, areas_more, kept_before_more}
-use Rattle.path_walk.proofs.WholeLaws.{told_query, told_update}
+use Rattle.path_walk.proofs.AreaLaws.{are_read_more}
+use Rattle.path_walk.proofs.StepLaws.{areas_on, may_behind, read_behind, effect_more, areas_more, kept_before_more}
+use Rattle.path_walk.proofs.WholeLaws.{told_query, told_update, update_reads}
 use Rattle.meta_task.specs.Ops.{config_of, effect_of, areas_of, IsReady, IsFirst}
 use Rattle.meta_task.specs.State.{IsNew, IsTaken, IsUnder}
 use Rattle.meta_task.specs.declared.op.OpTask.{OpTask}
@@ -40,9 +42,19 @@ first_under C q reads op first new = record {
   config = first.config;
   ready = first.ready;
   effect = λ S good agrees. first.effect (tree_of S);
-  areas = λ S good agrees area h. first.areas (tree_of S) area h;
+  areas = begun new;
   new = new;
 }
+  where
+    by_query : (b : Bool) (call kept : List Area) → b ≡ true → cond b call kept ≡ call
+    by_query true call kept is = refl
+    by_query false call kept is = absurd (cc)
+
+    begun : IsNew q reads → KeepsAreas C (λ T. footprint C T q) (areas_of op) reads
+    begun (inl query) S good agrees = ([], tt, by_query (is_query q.call) (call_areas C (tree_of S) q.server q.call) _ query ∙ sym (first.areas (tree_of S)))
+    begun (inr new) S good agrees =
+        let read = update_reads C q reads new.0 new.1 new.2 S good agrees in
+        (read.0, read.1, read.2 ∙ ap (λ (l : List Area). read.0 ++ l) (sym (first.areas (tree_of S))))
 
 pub under_on : (C : Settings) (q : Request) (reads : ReadSet) (old new : OpTask) → IsUnder C q reads old → config_of new ≡ config_of old → IsReady new
     → KeepsEffect (config_of old) (effect_of old) (effect_of new) reads → KeepsAreas (config_of old) (areas_of old) (areas_of new) reads → IsUnder C q reads new
@@ -53,20 +65,20 @@ under_on C q reads old new under config ready same less =
       config = config ∙ under.config;
       ready = ready;
       effect = λ S good agrees. kept S good agrees ∙ under.effect S good agrees;
-      areas = λ S good agrees area h. under.areas S good agrees area (fewer S good agrees area h);
+      areas = areas_on C (λ T. footprint C T q) (areas_of old) (areas_of new) reads under.areas fewer;
       new = under.new;
     }
 
 new_more : (q : Request) (reads : ReadSet) (ask : Ask) (answer : Answer) → IsNew q reads → IsNew q (noted reads ask answer)
 new_more q reads ask answer (inl query) = inl query
-new_more q reads ask answer (inr new) = inr (new.0, kept_before_more reads ask answer q new.1)
+new_more q reads ask answer (inr new) = inr (new.0, kept_before_more reads ask answer q new.1, (are_read_more reads ask answer (OneKey (keys.Idem q.client) ∷ []) (new.2, tt)).0)
 
 pub under_more : (C : Settings) (q : Request) (reads : ReadSet) (ask : Ask) (answer : Answer) (op : OpTask) → IsUnder C q reads op → IsUnder C q (noted reads ask answer) op
 under_more C q reads ask answer op under = record {
   config = under.config;
   ready = under.ready;
   effect = effect_more C reads ask answer (λ T. effect C T q) (effect_of op) under.effect;
-  areas = areas_more C reads ask answer (λ T. call_areas T q.server q.call) (areas_of op) under.areas;
+  areas = areas_more C reads ask answer (λ T. footprint C T q) (areas_of op) under.areas;
   new = new_more q reads ask answer under.new;
 }
 
@@ -77,20 +89,18 @@ look_of_new reads (asks.Get key) h = tt
 look_of_new reads (asks.Range lo hi limit) h = tt
 look_of_new reads ask h = absurd h
 
-in_footprint : (b : Bool) (area : Area) (key : Key) (areas : List Area) → IsArea area areas → IsArea area (cond b areas (OneKey key ∷ areas))
-in_footprint true area key areas h = h
-in_footprint false area key areas h = inr h
+pub under_may : (C : Settings) (q : Request) (reads : ReadSet) (op : OpTask) (ask : Ask) → IsUnder C q reads op → MayAsk C (areas_of op) reads ask → MayAsk C (λ T. footprint C T q) reads ask
+under_may C q reads op ask under may = may_behind C (λ T. footprint C T q) (areas_of op) reads ask under.areas may
 
-pub under_may : (C : Settings) (q : Request) (reads : ReadSet) (op : OpTask) (ask : Ask) → IsUnder C q reads op → MayAsk C (areas_of op) reads ask → MayAsk C (λ T. footprint T q) reads ask
-under_may C q reads op ask under may S good agrees =
-    reaches_more (areas_of op (tree_of S)) (footprint (tree_of S) q) ask
-    (λ area h. in_footprint (is_query q.call) area (keys.Idem q.client) (call_areas (tree_of S) q.server q.call) (under.areas S good agrees area h))
-    (may S good agrees)
+pub under_read : (C : Settings) (q : Request) (reads : ReadSet) (op : OpTask) → IsUnder C q reads op → HasRead C (areas_of op) reads → HasRead C (λ T. footprint C T q) reads
+under_read C q reads op under all = read_behind C (λ T. footprint C T q) (areas_of op) reads under.areas all
 
-pub kept_may : (C : Settings) (q : Request) (reads : ReadSet) → is_query q.call ≡ false → MayAsk C (λ T. footprint T q) reads (asks.Get (keys.Idem q.client))
-kept_may C q reads update S good agrees =
-    let areas : List Area = call_areas (tree_of S) q.server q.call in
-    subst (λ b. IsArea (OneKey (keys.Idem q.client)) (cond b areas (OneKey (keys.Idem q.client) ∷ areas))) (sym update) (inl refl)
+-- an update's client's kept reply comes first
+pub kept_may : (C : Settings) (q : Request) (reads : ReadSet) → is_query q.call ≡ false → IsUnread reads (keys.Idem q.client) → MayAsk C (λ T. footprint C T q) reads (asks.Get (keys.Idem q.client))
+kept_may C q reads update unread S good agrees =
+    let areas : List Area = call_areas C (tree_of S) q.server q.call in
+    let rest : List Area = if_new (get (tree_of S).kept q.client.0) q.number areas in
+    subst (λ b. IsNextOf reads (cond b areas (OneKey (keys.Idem q.client) ∷ rest)) (asks.Get (keys.Idem q.client))) (sym update) (inl (refl, unread))
 
 -- ---- replies
 

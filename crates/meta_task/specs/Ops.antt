@@ -1,12 +1,11 @@
 -- The task of any call that is built.
-use Rattle.std.specs.Prelude.{◌≡◌, List, []}
-use Rattle.conflict_sets.specs.declared.sets.RangeRead.{RangeRead}
+use Rattle.std.specs.Prelude.{◌≡◌, List}
 use Rattle.fs_base.specs.Config.{Settings}
 use Rattle.fs_base.specs.declared.call.Request.{Request}
 use Rattle.tree_model.specs.Calls.{effect}
 use Rattle.tree_model.specs.Effects.{Effect}
 use Rattle.tree_model.specs.Tree.{Tree}
-use Rattle.path_walk.specs.Areas.{Area, IsArea}
+use Rattle.path_walk.specs.Areas.{Area}
 use Rattle.path_walk.specs.Footprint.{call_areas}
 use Rattle.op_attr.specs.Attr as attr
 use Rattle.op_create.specs.Create as create
@@ -25,10 +24,6 @@ abbrev pub areas_of : OpTask → Tree → List Area
 areas_of (Attr task) = attr.areas_of task
 areas_of (Create task) = create.areas_of task
 
-abbrev pub HasAsked : OpTask → List RangeRead → Type 0
-HasAsked (Attr task) ranges = attr.HasAsked task ranges
-HasAsked (Create task) ranges = create.HasAsked task ranges
-
 abbrev pub IsReady : OpTask → Type 0
 IsReady (Attr task) = attr.IsReady task
 IsReady (Create task) = create.IsReady task
@@ -37,6 +32,5 @@ IsReady (Create task) = create.IsReady task
 pub record IsFirst (C : Settings) (q : Request) (op : OpTask) : Type 0 where
   pub config : config_of op ≡ C
   pub effect : (T : Tree) → effect_of op T ≡ effect C T q
-  pub areas : (T : Tree) (area : Area) → IsArea area (areas_of op T) → IsArea area (call_areas T q.server q.call)
-  pub asked : HasAsked op []
+  pub areas : (T : Tree) → areas_of op T ≡ call_areas C T q.server q.call
   pub ready : IsReady op

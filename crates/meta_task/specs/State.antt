@@ -8,16 +8,16 @@ use Rattle.key_schema.specs.declared.key.Key.TheVariants as keys
 use Rattle.tree_model.specs.Calls.{effect, is_query}
 use Rattle.txn_task.specs.Transactions.{with_key}
 use Rattle.txn_task.specs.Tries.{Tries}
+use Rattle.txn_task.specs.Wanted.{IsKeyRead}
 use Rattle.txn_task.specs.declared.messages.Answer.{Answer}
 use Rattle.txn_task.specs.declared.messages.Answer.TheVariants as answers
 use Rattle.txn_task.specs.declared.messages.Ask.{Ask}
 use Rattle.txn_task.specs.declared.messages.Ask.TheVariants as asks
-use Rattle.txn_task.specs.declared.messages.OpStep.TheVariants as steps
-use Rattle.path_walk.specs.Footprint.{call_areas}
-use Rattle.path_walk.specs.Owed.{IsNewAsk, IsKeptBefore, KeepsEffect, KeepsAreas, GoesOn}
+use Rattle.path_walk.specs.Footprint.{footprint}
+use Rattle.path_walk.specs.Owed.{IsNewAsk, IsKeptBefore, KeepsEffect, KeepsAreas}
 use Rattle.path_walk.specs.Requests.{IsRequest}
-use Rattle.meta_task.specs.Ops.{config_of, effect_of, areas_of, HasAsked, IsReady}
-use Rattle.meta_task.specs.Task.{TaskView, no_reads}
+use Rattle.meta_task.specs.Ops.{config_of, effect_of, areas_of, IsReady}
+use Rattle.meta_task.specs.Task.{TaskView, HasOutcome, no_reads}
 use Rattle.meta_task.specs.declared.op.OpTask.{OpTask}
 use Rattle.meta_task.specs.declared.state.State.{State}
 use Rattle.meta_task.specs.declared.waiting.Waiting.{Waiting}
@@ -46,23 +46,22 @@ pub record IsTaken (C : Settings) (q : Request) : Type 0 where
 abbrev pub HasLeft : Tries → Type 0
 HasLeft tries = length tries.conflicts < tries.attempts
 
--- a query, or an update that is newer than its client's kept reply
+-- a query, or an update that is newer than its client's kept reply, which was read
 abbrev pub IsNew : Request → ReadSet → Type 0
-IsNew q reads = (is_query q.call ≡ true) ⊎ ((is_query q.call ≡ false) × IsKeptBefore reads q)
+IsNew q reads = (is_query q.call ≡ true) ⊎ ((is_query q.call ≡ false) × IsKeptBefore reads q × IsKeyRead reads (keys.Idem q.client))
 
--- an operation of the request under way: it comes to the same, and reads no more
+-- an operation of the request under way: it comes to the same, and reads what is left
 pub record IsUnder (C : Settings) (q : Request) (reads : ReadSet) (op : OpTask) : Type 0 where
   pub config : config_of op ≡ C
   pub ready : IsReady op
   pub effect : KeepsEffect C (λ T. effect C T q) (effect_of op) reads
-  pub areas : KeepsAreas C (λ T. call_areas T q.server q.call) (areas_of op) reads
+  pub areas : KeepsAreas C (λ T. footprint C T q) (areas_of op) reads
   pub new : IsNew q reads
 
 -- an ask of the operation
 pub record IsAsking (C : Settings) (q : Request) (reads : ReadSet) (ask : Ask) (op : OpTask) : Type 0 where
   pub under : IsUnder C q reads op
   pub fresh : IsNewAsk reads ask
-  pub asked : GoesOn (HasAsked op) reads.ranges (steps.Ask ask)
 
 -- the first ask of an update: its client's kept reply
 pub record IsAskingKept (q : Request) (reads : ReadSet) (ask : Ask) : Type 0 where
@@ -78,6 +77,7 @@ IsReading C q reads ask None = IsAskingKept q reads ask
 pub record IsGoing (s : State) : Type 0 where
   pub taken : IsTaken s.config s.request
   pub ended : s.waiting ≡ waits.Ended
+  pub unsaid : s.outcome ≡ None
   pub begun : s.begun ≡ true
   pub left : HasLeft s.retry
 
@@ -93,14 +93,20 @@ IsKnown s waits.Beginning = HasLeft s.retry
 IsKnown s (waits.Reading ask) = IsWaiting s ask
 IsKnown s (waits.Committing reply) = HasLeft s.retry
 IsKnown s waits.Ended = Unit {0}
+IsKnown s waits.Failed = ⊥
 
 pub record IsState (s : State) : Type 0 where
   pub taken : IsTaken s.config s.request
   pub known : IsKnown s s.waiting
+  pub outcome : HasOutcome s.waiting s.outcome
+
+-- memory ran out, or the state of a task that goes on
+abbrev pub IsHeld : State → Type 0
+IsHeld s = ((s.waiting ≡ waits.Failed) × (s.outcome ≡ None)) ⊎ IsState s
 
 -- after an answer that is among the reads: the operation is still that of the request, or what stands at the client's key was read
 abbrev pub IsNoted : Option OpTask → State → State → Answer → Type 0
-IsNoted (Some op) old new answer = IsUnder new.config new.request new.txn.reads op × HasAsked op new.txn.reads.ranges
+IsNoted (Some op) old new answer = IsUnder new.config new.request new.txn.reads op
 IsNoted None old new (answers.Got got) =
     (is_query new.request.call ≡ false) × (new.txn.reads ≡ with_key no_reads (spelled_key (keys.Idem new.request.client)) got.value)
     × (old.waiting ≡ waits.Reading (asks.Get (keys.Idem old.request.client)))

@@ -13,7 +13,7 @@ use Rattle.txn_task.specs.declared.outcome.Outcome.{Outcome}
 use Rattle.path_walk.specs.Footprint.{footprint}
 use Rattle.path_walk.specs.Owed.{IsNewAsk, MayAsk}
 use Rattle.path_walk.specs.Sound.{IsSoundEntry}
-use Rattle.meta_task.specs.Task.{TaskView, IsToldReply}
+use Rattle.meta_task.specs.Task.{TaskView, HasReadAll, IsToldReply}
 use Rattle.meta_task.specs.declared.kept.Kept.{Kept}
 use Rattle.meta_task.specs.declared.kept.Kept.TheVariants as kept
 use Rattle.meta_task.specs.declared.waiting.Waiting.{Waiting}
@@ -63,14 +63,14 @@ pub record IsLooking (known new : TaskView) (ask : Ask) : Type 0 where
   pub is : new ≡ record known { waiting = waits.Reading ask }
   pub begun : new.begun ≡ true
   pub fresh : IsNewAsk new.reads ask
-  pub touched : MayAsk new.config (λ T. footprint T new.request) new.reads ask
+  pub touched : MayAsk new.config (λ T. footprint new.config T new.request) new.reads ask
 
 abbrev pub GoesTo : TaskView → TaskView → Ask → Type 0
 GoesTo known new (asks.Get key) = IsLooking known new (asks.Get key)
 GoesTo known new (asks.Range lo hi limit) = IsLooking known new (asks.Range lo hi limit)
 GoesTo known new (asks.Commit entry) =
     (new ≡ record known { waiting = waits.Committing entry.reply }) × (new.begun ≡ true)
-    × (entry.request ≡ new.request) × (entry.reads ≡ new.reads) × IsSoundEntry new.config entry
+    × (entry.request ≡ new.request) × (entry.reads ≡ new.reads) × IsSoundEntry new.config entry × HasReadAll new
 GoesTo known new asks.Done = (outcome : Outcome) × Ends known new outcome × IsToldReply known outcome
 GoesTo known new ask = ⊥
 

@@ -19,7 +19,7 @@ use Rattle.txn_task.specs.declared.messages.Ask.{Ask}
 use Rattle.txn_task.specs.declared.messages.Ask.TheVariants as asks
 use Rattle.txn_task.specs.declared.outcome.Outcome.{Outcome}
 use Rattle.path_walk.specs.Footprint.{footprint}
-use Rattle.path_walk.specs.Owed.{IsNewAsk, MayAsk, IsKeptBefore}
+use Rattle.path_walk.specs.Owed.{HasRead, IsNewAsk, MayAsk, IsKeptBefore}
 use Rattle.path_walk.specs.Sound.{IsSoundEntry, IsJustifiedReply}
 use Rattle.meta_task.specs.declared.waiting.Waiting.{Waiting}
 use Rattle.meta_task.specs.declared.waiting.Waiting.TheVariants as waits
@@ -69,6 +69,11 @@ Fits (waits.Committing reply) (answers.Conflict version key) = Unit {0}
 Fits (waits.Committing reply) answers.StoreFull = Unit {0}
 Fits waiting answer = ⊥
 
+-- a task that has failed takes any answer
+abbrev pub MayTake : Waiting → Answer → Type 0
+MayTake waits.Failed answer = Unit {0}
+MayTake waiting answer = Fits waiting answer
+
 -- the reads with what an answer to the ask that waits tells
 abbrev pub reads_with : ReadSet → Waiting → Answer → ReadSet
 reads_with reads (waits.Reading ask) answer = noted reads ask answer
@@ -83,6 +88,10 @@ learnt task (answers.Conflict version key) = record task { begun = false; confli
 learnt task answer = task
 
 -- ---- where an outcome comes from
+
+-- all was read that the request reads, in all well-formed rows that agree with the reads
+abbrev pub HasReadAll : TaskView → Type 0
+HasReadAll task = HasRead task.config (λ T. footprint task.config T task.request) task.reads
 
 -- the client's kept reply has the request's number: an earlier attempt committed it
 pub record IsKeptReply (task : TaskView) (got : Got) (outcome : Outcome) : Type 0 where
@@ -106,6 +115,7 @@ ShowsNew task reply = (is_query task.request.call ≡ true) ⊎ (IsKeptBefore ta
 pub record IsToldReply (task : TaskView) (outcome : Outcome) : Type 0 where
   pub told : IsJustifiedReply task.config task.request task.reads outcome.reply
   pub new : ShowsNew task outcome.reply
+  pub all : HasReadAll task
   pub version : outcome.version ≡ task.snapshot
   pub mark : outcome.committed ≡ false
 
@@ -153,13 +163,13 @@ GoesOnAfter (answers.Got got) = Unit {0}
 GoesOnAfter (answers.Rows rows) = Unit {0}
 GoesOnAfter answer = ⊥
 
--- a key that this attempt hasn't read, or rows behind those that it has; in the request's footprint
+-- the first of the request's footprint that this attempt hasn't read
 pub record IsRead (old : TaskView) (answer : Answer) (new : TaskView) (ask : Ask) : Type 0 where
   pub is : new ≡ record (learnt old answer) { waiting = waits.Reading ask }
   pub begun : new.begun ≡ true
   pub goes_on : GoesOnAfter answer
   pub fresh : IsNewAsk new.reads ask
-  pub touched : MayAsk new.config (λ T. footprint T new.request) new.reads ask
+  pub touched : MayAsk new.config (λ T. footprint new.config T new.request) new.reads ask
 
 -- the next ask, after an answer to a task that was old
 abbrev pub Asks : TaskView → Answer → TaskView → Ask → Type 0
@@ -168,7 +178,16 @@ Asks old answer new (asks.Get key) = IsRead old answer new (asks.Get key)
 Asks old answer new (asks.Range lo hi limit) = IsRead old answer new (asks.Range lo hi limit)
 Asks old answer new (asks.Commit entry) =
     (new ≡ record (learnt old answer) { waiting = waits.Committing entry.reply }) × (new.begun ≡ true) × GoesOnAfter answer
-    × (entry.request ≡ new.request) × (entry.reads ≡ new.reads) × IsSoundEntry new.config entry
+    × (entry.request ≡ new.request) × (entry.reads ≡ new.reads) × IsSoundEntry new.config entry × HasReadAll new
 Asks old answer new asks.Done =
     (outcome : Outcome) × (new ≡ record (learnt old answer) { waiting = waits.Ended; outcome = Some outcome }) × (outcome.conflicts ≡ new.conflicts) × HasOrigin old (learnt old answer) answer outcome
 Asks old answer new ask = ⊥
+
+-- ---- the end
+
+-- an outcome is there exactly where the task has ended
+abbrev pub HasOutcome : Waiting → Option Outcome → Type 0
+HasOutcome waits.Ended (Some outcome) = Unit {0}
+HasOutcome waits.Ended None = ⊥
+HasOutcome waiting (Some outcome) = ⊥
+HasOutcome waiting None = Unit {0}

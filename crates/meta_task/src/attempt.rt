@@ -1,5 +1,5 @@
 ghost use Rattle.std.specs.Prelude.{◌≡◌, [], Some, IfOk, OnOk};
-ghost use Rattle.path_walk.specs.Owed.{IsOpCommit, IsOpStep, IsNewAsk, MayAsk, GoesOn, LeavesWrites};
+ghost use Rattle.path_walk.specs.Owed.{IsOpCommit, IsOpStep, IsNewAsk, MayAsk, LeavesWrites};
 ghost use Rattle.path_walk.specs.Footprint.{footprint};
 ghost use Rattle.path_walk.specs.Sound.{IsJustifiedReply, IsSoundEntry, kept_value};
 ghost use Rattle.conflict_sets.specs.declared.sets.WriteSet.{WriteSet};
@@ -7,10 +7,10 @@ ghost use Rattle.key_schema.specs.Keys.{spelled_key};
 ghost use Rattle.key_schema.specs.declared.key.Key.TheVariants as keys;
 ghost use Rattle.row_tree.specs.Values.{KeptValue, spelled_value};
 ghost use Rattle.txn_task.specs.Writes.{set_write};
-ghost use Rattle.meta_task.specs.Ops.{HasAsked, areas_of, effect_of};
+ghost use Rattle.meta_task.specs.Ops.{areas_of, effect_of};
 ghost use Rattle.meta_task.specs.State.{view_of, IsState, IsGoing, IsReading, IsUnder, IsNew};
 ghost use Rattle.meta_task.specs.Steps.{GoesTo};
-ghost use Rattle.meta_task.specs.Task.{ShowsNew};
+ghost use Rattle.meta_task.specs.Task.{HasReadAll, ShowsNew};
 
 use crate::op::OpTask;
 use crate::state::{State, set_op, set_waiting};
@@ -83,8 +83,8 @@ impl State {
         requires unwritten { self.old.txn.writes ≡ [] }
         requires asks { IsReading self.old.config self.old.request self.old.txn.reads ask op }
         requires fresh { IsNewAsk self.old.txn.reads ask }
-        requires touched { MayAsk self.old.config (λ T. footprint T self.old.request) self.old.txn.reads ask }
-        ensures state { IsState self.new }
+        requires touched { MayAsk self.old.config (λ T. footprint self.old.config T self.old.request) self.old.txn.reads ask }
+        ensures state { OnOk result (IsState self.new) }
         ensures goes { IfOk result (λ next. GoesTo (view_of self.old) (view_of self.new) next) }
     {
         let copy = copy_look(self.alloc, &ask)?;
@@ -98,7 +98,8 @@ impl State {
         requires going { IsGoing self.old }
         requires told { IsJustifiedReply self.old.config self.old.request self.old.txn.reads reply }
         requires new { ShowsNew (view_of self.old) reply }
-        ensures state { IsState self.new }
+        requires all { HasReadAll (view_of self.old) }
+        ensures state { OnOk result (IsState self.new) }
         ensures goes { IfOk result (λ next. GoesTo (view_of self.old) (view_of self.new) next) }
     {
         let version = self.txn.snapshot();
@@ -110,7 +111,8 @@ impl State {
     fn commit(&mut self, reply: Reply, asked: Items<Asked>) -> Result<Ask, Memory>
         requires going { IsGoing self.old }
         requires sound { (writes : WriteSet) → writes.writes ≡ set_write (spelled_key (keys.Idem self.old.request.client)) (Some (spelled_value (kept_value self.old.request reply))) self.old.txn.writes → IsSoundEntry self.old.config (record { request = self.old.request; reply = reply; asked = asked; reads = self.old.txn.reads; writes = writes }) }
-        ensures state { IsState self.new }
+        requires all { HasReadAll (view_of self.old) }
+        ensures state { OnOk result (IsState self.new) }
         ensures goes { IfOk result (λ next. GoesTo (view_of self.old) (view_of self.new) next) }
     {
         let Parts {
@@ -135,7 +137,8 @@ impl State {
         requires going { IsGoing self.old }
         requires under { IsUnder self.old.config self.old.request self.old.txn.reads op }
         requires made { IsOpCommit self.old.config (effect_of op) self.old.txn reply asked }
-        ensures state { IsState self.new }
+        requires all { HasReadAll (view_of self.old) }
+        ensures state { OnOk result (IsState self.new) }
         ensures goes { IfOk result (λ next. GoesTo (view_of self.old) (view_of self.new) next) }
     {
         if is_query(&self.request.call) {
@@ -151,9 +154,8 @@ impl State {
         requires going { IsGoing self.old }
         requires under { IsUnder self.old.config self.old.request self.old.txn.reads op }
         requires step { IsOpStep self.old.config (areas_of op) (effect_of op) self.old.txn step }
-        requires asked { GoesOn (HasAsked op) self.old.txn.reads.ranges step }
         requires unwritten { LeavesWrites step self.old.txn.writes }
-        ensures state { IsState self.new }
+        ensures state { OnOk result (IsState self.new) }
         ensures goes { IfOk result (λ next. GoesTo (view_of self.old) (view_of self.new) next) }
     {
         match step {
@@ -177,8 +179,7 @@ impl State {
         requires going { IsGoing self.old }
         requires unwritten { self.old.txn.writes ≡ [] }
         requires under { IsUnder self.old.config self.old.request self.old.txn.reads op }
-        requires asked { HasAsked op self.old.txn.reads.ranges }
-        ensures state { IsState self.new }
+        ensures state { OnOk result (IsState self.new) }
         ensures goes { IfOk result (λ next. GoesTo (view_of self.old) (view_of self.new) next) }
     {
         let mut op = op;
@@ -191,9 +192,8 @@ impl State {
     pub(crate) fn begin(&mut self) -> Result<Ask, Memory>
         requires going { IsGoing self.old }
         requires unwritten { self.old.txn.writes ≡ [] }
-        requires ranges { self.old.txn.reads.ranges ≡ [] }
         requires new { IsNew self.old.request self.old.txn.reads }
-        ensures state { IsState self.new }
+        ensures state { OnOk result (IsState self.new) }
         ensures goes { IfOk result (λ next. GoesTo (view_of self.old) (view_of self.new) next) }
     {
         let op = OpTask::new(self.alloc, &self.request, &self.config)?;

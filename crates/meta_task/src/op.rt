@@ -1,10 +1,10 @@
 ghost use Rattle.std.specs.Prelude.{◌≡◌, [], IfOk, OnOk, IsTrue, true, false};
 ghost use Rattle.tree_model.specs.Calls.{is_built};
-ghost use Rattle.path_walk.specs.Owed.{IsOpStep, KeepsEffect, KeepsAreas, GoesOn, LeavesWrites};
+ghost use Rattle.path_walk.specs.Owed.{HasStepped};
 ghost use Rattle.path_walk.specs.Requests.{IsRequest};
 ghost use Rattle.op_attr.specs.Attr.{IsAttrCall};
 ghost use Rattle.op_create.specs.Create.{IsCreateCall};
-ghost use Rattle.meta_task.specs.Ops.{IsFirst, IsReady, HasAsked, config_of, effect_of, areas_of};
+ghost use Rattle.meta_task.specs.Ops.{IsFirst, IsReady, config_of, effect_of, areas_of};
 
 use fs_base::{Call, Config, Memory, Request};
 use op_attr::AttrTask;
@@ -67,19 +67,13 @@ impl OpTask {
         Ok(op)
     }
 
-    /// The next step, once the answer is among the reads. An operation without memory for it may be left anywhere.
+    /// The next step, once the answer is among the reads. Once memory ran out the answer is want of memory from then on.
     pub fn next(&mut self, alloc: Global, answer: Answer, txn: &mut Txn) -> Result<OpStep, Memory>
         requires ready { IsReady self.old }
         requires writes { txn.old.writes ≡ [] }
-        requires asked { HasAsked self.old txn.old.reads.ranges }
         ensures config { OnOk result (config_of self.new ≡ config_of self.old) }
         ensures ready { OnOk result (IsReady self.new) }
-        ensures reads { OnOk result ((txn.new.reads ≡ txn.old.reads) × (txn.new.snapshot ≡ txn.old.snapshot)) }
-        ensures keeps { OnOk result (KeepsEffect (config_of self.old) (effect_of self.old) (effect_of self.new) txn.old.reads) }
-        ensures areas { OnOk result (KeepsAreas (config_of self.old) (areas_of self.old) (areas_of self.new) txn.old.reads) }
-        ensures step { IfOk result (λ s. IsOpStep (config_of self.old) (areas_of self.new) (effect_of self.new) txn.new s) }
-        ensures asked { IfOk result (λ s. GoesOn (HasAsked self.new) txn.new.reads.ranges s) }
-        ensures unwritten { IfOk result (λ s. LeavesWrites s txn.new.writes) }
+        ensures step { IfOk result (HasStepped (config_of self.old) (areas_of self.old) (areas_of self.new) (effect_of self.old) (effect_of self.new) txn.old txn.new) }
     {
         match self {
             OpTask::Attr(task) => {

@@ -1,7 +1,8 @@
-ghost use Rattle.std.specs.Prelude.{◌≡◌, Some, IfOk};
+ghost use Rattle.std.specs.Prelude.{◌≡◌, ◌↔◌, IsTrue, Some, None, IfOk, OnOk};
 ghost use Rattle.txn_task.specs.declared.messages.Ask.TheVariants as asks;
 ghost use Rattle.meta_task.specs.State.{view_of, IsState, IsTaken};
 ghost use Rattle.meta_task.specs.Steps.{EndsWith};
+ghost use Rattle.meta_task.specs.declared.waiting.Waiting.TheVariants as waits;
 
 use crate::op::OpTask;
 use crate::waiting::Waiting;
@@ -44,6 +45,12 @@ pub(crate) fn take_op(op: &mut Option<OpTask>) -> Option<OpTask>
     mem::replace(op, None)
 }
 
+fn drop_outcome(outcome: &mut Option<Outcome>)
+    ensures { outcome.new ≡ None }
+{
+    *outcome = None;
+}
+
 fn set_outcome(outcome: &mut Option<Outcome>, new: Outcome)
     ensures { outcome.new ≡ Some new }
 {
@@ -51,10 +58,28 @@ fn set_outcome(outcome: &mut Option<Outcome>, new: Outcome)
 }
 
 impl State {
+    pub(crate) fn has_failed(&self) -> bool
+        ensures { IsTrue result ↔ (self.now.waiting ≡ waits.Failed) }
+    {
+        match &self.waiting {
+            Waiting::Failed => true,
+            _ => false,
+        }
+    }
+
+    /// Memory ran out: nothing is known of the request from now on.
+    pub(crate) fn fail(&mut self)
+        ensures failed { self.new.waiting ≡ waits.Failed }
+        ensures outcome { self.new.outcome ≡ None }
+    {
+        set_waiting(&mut self.waiting, Waiting::Failed);
+        drop_outcome(&mut self.outcome);
+    }
+
     /// The end, with this reply.
     pub(crate) fn end(&mut self, reply: Reply, version: u64, committed: bool) -> Result<Ask, Memory>
         requires { IsTaken self.old.config self.old.request }
-        ensures state { IsState self.new }
+        ensures state { OnOk result (IsState self.new) }
         ensures done { IfOk result (λ ask. ask ≡ asks.Done) }
         ensures ends { IfOk result (λ ask. EndsWith (view_of self.old) (view_of self.new) reply version committed) }
     {

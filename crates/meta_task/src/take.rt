@@ -1,12 +1,12 @@
-ghost use Rattle.std.specs.Prelude.{◌≡◌, ◌⊎◌, [], false, IfOk, OnOk, OnErr};
+ghost use Rattle.std.specs.Prelude.{◌≡◌, ◌≢◌, ◌⊎◌, [], false, IfOk, OnOk, OnErr};
 ghost use Rattle.key_schema.specs.Keys.{spelled_key};
 ghost use Rattle.key_schema.specs.declared.key.Key.TheVariants as keys;
 ghost use Rattle.tree_model.specs.Calls.{is_query as asks_only};
 ghost use Rattle.txn_task.specs.Transactions.{with_key};
 ghost use Rattle.txn_task.specs.declared.messages.Answer.TheVariants as answers;
-ghost use Rattle.meta_task.specs.State.{view_of, IsState, IsGoing, IsNoted};
+ghost use Rattle.meta_task.specs.State.{view_of, IsState, IsHeld, IsGoing, IsNoted};
 ghost use Rattle.meta_task.specs.Steps.{GoesTo, Repeats, IsGot, IsPending, IsCommitting};
-ghost use Rattle.meta_task.specs.Task.{Asks, Fits, learnt, no_reads};
+ghost use Rattle.meta_task.specs.Task.{Asks, Fits, MayTake, learnt, no_reads};
 ghost use Rattle.meta_task.specs.declared.waiting.Waiting.TheVariants as waits;
 
 use crate::kept::{Kept, kept_of};
@@ -80,7 +80,7 @@ impl State {
         requires unwritten { self.old.txn.writes ≡ [] }
         requires reads { self.old.txn.reads ≡ no_reads }
         requires update { asks_only self.old.request.call ≡ false }
-        ensures state { IsState self.new }
+        ensures state { OnOk result (IsState self.new) }
         ensures goes { IfOk result (λ next. GoesTo (view_of self.old) (view_of self.new) next) }
     {
         let key = Key::Idem(self.request.client);
@@ -91,7 +91,7 @@ impl State {
     fn take_begun(&mut self, version: u64) -> Result<Ask, Memory>
         requires fits { Fits self.old.waiting (answers.Begun version) }
         requires state { IsState self.old }
-        ensures state { IsState self.new }
+        ensures state { OnOk result (IsState self.new) }
         ensures asks { IfOk result (λ ask. Asks (view_of self.old) (answers.Begun version) (view_of self.new) ask) }
     {
         self.restart(version);
@@ -108,7 +108,6 @@ impl State {
         requires fits { Fits self.old.waiting answer.now }
         requires pending { IsPending self.old.waiting }
         requires state { IsState self.old }
-        ensures state { OnErr result (IsState self.new) }
         ensures going { OnOk result (IsGoing self.new) }
         ensures unwritten { OnOk result (self.new.txn.writes ≡ []) }
         ensures known { OnOk result (view_of self.new ≡ record (learnt (view_of self.old) answer.now) { waiting = waits.Ended }) }
@@ -126,7 +125,7 @@ impl State {
         requires unwritten { self.old.txn.writes ≡ [] }
         requires update { asks_only self.old.request.call ≡ false }
         requires reads { self.old.txn.reads ≡ with_key no_reads (spelled_key (keys.Idem self.old.request.client)) got.value }
-        ensures state { IsState self.new }
+        ensures state { OnOk result (IsState self.new) }
         ensures goes { IfOk result (λ next. GoesTo (view_of self.old) (view_of self.new) next ⊎ Repeats (view_of self.old) got (view_of self.new) next) }
     {
         let kept = kept_of(self.alloc, &got.value, self.request.number)?;
@@ -150,7 +149,7 @@ impl State {
         requires fits { Fits self.old.waiting answer }
         requires pending { IsPending self.old.waiting }
         requires state { IsState self.old }
-        ensures state { IsState self.new }
+        ensures state { OnOk result (IsState self.new) }
         ensures asks { IfOk result (λ ask. Asks (view_of self.old) answer (view_of self.new) ask) }
     {
         self.note(&answer)?;
@@ -170,7 +169,7 @@ impl State {
     fn take_committed(&mut self, version: u64) -> Result<Ask, Memory>
         requires fits { Fits self.old.waiting (answers.Committed version) }
         requires state { IsState self.old }
-        ensures state { IsState self.new }
+        ensures state { OnOk result (IsState self.new) }
         ensures asks { IfOk result (λ ask. Asks (view_of self.old) (answers.Committed version) (view_of self.new) ask) }
     {
         let waiting = mem::replace(&mut self.waiting, Waiting::Ended);
@@ -182,7 +181,7 @@ impl State {
     fn take_conflict(&mut self, version: u64, key: Key) -> Result<Ask, Memory>
         requires fits { Fits self.old.waiting (answers.Conflict version key) }
         requires state { IsState self.old }
-        ensures state { IsState self.new }
+        ensures state { OnOk result (IsState self.new) }
         ensures asks { IfOk result (λ ask. Asks (view_of self.old) (answers.Conflict version key) (view_of self.new) ask) }
     {
         set_waiting(&mut self.waiting, Waiting::Ended);
@@ -200,7 +199,7 @@ impl State {
     fn take_full(&mut self) -> Result<Ask, Memory>
         requires fits { Fits self.old.waiting answers.StoreFull }
         requires state { IsState self.old }
-        ensures state { IsState self.new }
+        ensures state { OnOk result (IsState self.new) }
         ensures asks { IfOk result (λ ask. Asks (view_of self.old) answers.StoreFull (view_of self.new) ask) }
     {
         let snapshot = self.txn.snapshot();
@@ -208,11 +207,11 @@ impl State {
         Ok(ask)
     }
 
-    /// The next ask.
-    pub(crate) fn next(&mut self, answer: Answer) -> Result<Ask, Memory>
+    /// The next ask of a task that goes on.
+    fn take(&mut self, answer: Answer) -> Result<Ask, Memory>
         requires fits { Fits self.old.waiting answer }
         requires state { IsState self.old }
-        ensures state { IsState self.new }
+        ensures state { OnOk result (IsState self.new) }
         ensures asks { IfOk result (λ ask. Asks (view_of self.old) answer (view_of self.new) ask) }
     {
         match answer {
@@ -247,6 +246,27 @@ impl State {
             Answer::Ended(_) => unreachable!(),
             Answer::Did(_) => unreachable!(),
             Answer::NodeRefused(_) => unreachable!(),
+        }
+    }
+
+    /// The next ask. Once memory ran out the answer is want of memory from then on.
+    pub(crate) fn next(&mut self, answer: Answer) -> Result<Ask, Memory>
+        requires may { MayTake self.old.waiting answer }
+        requires held { IsHeld self.old }
+        ensures held { IsHeld self.new }
+        ensures asks { IfOk result (λ ask. Asks (view_of self.old) answer (view_of self.new) ask) }
+        ensures alive { OnOk result (self.old.waiting ≢ waits.Failed) }
+        ensures err { OnErr result (self.new.waiting ≡ waits.Failed) }
+    {
+        if self.has_failed() {
+            return Err(Memory);
+        }
+        match self.take(answer) {
+            Ok(ask) => Ok(ask),
+            Err(Memory) => {
+                self.fail();
+                Err(Memory)
+            }
         }
     }
 }

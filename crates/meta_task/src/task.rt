@@ -1,7 +1,8 @@
-ghost use Rattle.std.specs.Prelude.{◌≡◌, ◌≤◌, IfOk};
+ghost use Rattle.std.specs.Prelude.{◌≡◌, ◌≢◌, ◌≤◌, IfOk, OnOk, OnErr};
 ghost use Rattle.std.specs.Option.{option_copied};
 ghost use Rattle.path_walk.specs.Requests.{IsRequest};
-ghost use Rattle.meta_task.specs.Task.{new_task, Fits, Asks};
+ghost use Rattle.meta_task.specs.declared.waiting.Waiting.TheVariants as waits;
+ghost use Rattle.meta_task.specs.Task.{new_task, MayTake, Asks, HasOutcome};
 
 use crate::state::State;
 use crate::waiting::Waiting;
@@ -19,7 +20,7 @@ pub struct MetaTask {
 impl Model for MetaTask {
     ghost use Rattle.std.specs.Coded.{codes};
     ghost use Rattle.conflict_sets.specs.contracts.sets.WriteSet as write_set;
-    ghost use Rattle.meta_task.specs.State.{view_of, IsState};
+    ghost use Rattle.meta_task.specs.State.{view_of, IsHeld};
     ghost use Rattle.meta_task.specs.Task.{TaskView};
 
     ghost Value = { TaskView };
@@ -28,7 +29,7 @@ impl Model for MetaTask {
 
     ghost view = { λ t. view_of t.state };
 
-    ghost invariant = { λ t. IsState t.state };
+    ghost invariant = { λ t. IsHeld t.state };
 }
 
 impl MetaTask {
@@ -60,10 +61,12 @@ impl MetaTask {
 
     /// The next ask. The answer fits the last one; the first is `Start`.
     ///
-    /// A task without memory for it has ended, and takes no further answer.
+    /// Once memory ran out the answer is want of memory from then on, whatever comes.
     pub fn next(&mut self, answer: Answer) -> Result<Ask, Memory>
-        requires { Fits self.old.waiting answer }
-        ensures { IfOk result (λ ask. Asks self.old answer self.new ask) }
+        requires { MayTake self.old.waiting answer }
+        ensures asks { IfOk result (λ ask. Asks self.old answer self.new ask) }
+        ensures alive { OnOk result (self.old.waiting ≢ waits.Failed) }
+        ensures err { OnErr result (self.new.waiting ≡ waits.Failed) }
     {
         let ask = self.state.next(answer)?;
         Ok(ask)
@@ -76,9 +79,10 @@ impl MetaTask {
         self.state.txn.snapshot()
     }
 
-    /// What the request came to, once it is done.
+    /// What the request came to, exactly once it is done.
     pub fn outcome(&self) -> Option<&Outcome>
-        ensures { option_copied result ≡ self.now.outcome }
+        ensures value { option_copied result ≡ self.now.outcome }
+        ensures done { HasOutcome self.now.waiting self.now.outcome }
     {
         self.state.outcome.as_ref()
     }

@@ -12,6 +12,8 @@ pub enum Waiting {
     Reading(Ask),
     /// Its commit, which has this reply.
     Committing(Reply),
-    /// Nothing more.
+    /// Nothing more: it is done.
     Ended,
+    /// Nothing more: memory ran out.
+    Failed,
 }
