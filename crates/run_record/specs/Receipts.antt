@@ -54,7 +54,7 @@ pub record NamesLater (C : Settings) (journal : List Entry) (request : Request) 
   pub at : EntryAt journal place entry
   pub other : entry.request.client ≢ request.client
   pub wrote : IsWritten entry.writes.writes (spelled_key pair.1)
-  pub touched : IsTouched (footprint (tree_at C journal snapshot) request) pair.1
+  pub touched : IsTouched (footprint C (tree_at C journal snapshot) request) pair.1
 
 -- versions rise, from above the front
 abbrev pub AreConflicts : Settings → List Entry → Request → ℕ → List (ℕ × Key) → Type 0

@@ -4,7 +4,9 @@ use Rattle.conflict_sets.specs.Reads.{Agrees}
 use Rattle.fs_base.specs.Config.{Settings}
 use Rattle.fs_base.specs.declared.reply.Reply.{Reply}
 use Rattle.fs_base.specs.declared.reply.Reply.TheVariants.{Refused}
+use Rattle.path_walk.specs.Areas.{AreRead}
 use Rattle.path_walk.specs.Footprint.{footprint}
+use Rattle.path_walk.specs.Sound.{IsSoundEntry}
 use Rattle.row_tree.specs.HasTree.{HasTree}
 use Rattle.tree_model.specs.Calls.{is_query}
 use Rattle.txn_task.specs.declared.messages.Entry.{Entry}
@@ -21,10 +23,12 @@ abbrev pub IsNoRefusal : Reply → Type 0
 IsNoRefusal (Refused code) = ⊥
 IsNoRefusal reply = Unit {0}
 
--- an entry is a change that was done; it read what stood before it, within its call's footprint, and asked no storage node
+-- an entry is sound: a change that was done. It read what stood before it, its call's whole footprint and nothing else, and asked no storage node
 pub record IsRightEntry (C : Settings) (journal : List Entry) (place : ℕ) (entry : Entry) : Type 0 where
   pub agrees : Agrees (journal_rows C journal place) entry.reads
-  pub touched : AreTouched (footprint (tree_at C journal place) entry.request) entry.reads
+  pub sound : IsSoundEntry C entry
+  pub touched : AreTouched (footprint C (tree_at C journal place) entry.request) entry.reads
+  pub whole : AreRead entry.reads (footprint C (tree_at C journal place) entry.request)
   pub none_asked : entry.asked ≡ []
   pub update : is_query entry.request.call ≡ false
   pub accepted : IsNoRefusal entry.reply

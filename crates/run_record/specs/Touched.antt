@@ -1,16 +1,16 @@
 -- What was read, or was met as a conflict, against a footprint.
-use Rattle.std.specs.Prelude.{◌≡◌, ◌⊎◌, ℕ, List, [], ◌∷◌}
+use Rattle.std.specs.Prelude.{◌≡◌, ◌⊎◌, ℕ, true, List, [], ◌∷◌}
+use Rattle.conflict_sets.specs.Rows.{is_inside}
 use Rattle.conflict_sets.specs.declared.sets.KeyRead.{KeyRead}
 use Rattle.conflict_sets.specs.declared.sets.RangeRead.{RangeRead}
 use Rattle.conflict_sets.specs.declared.sets.ReadSet.{ReadSet}
 use Rattle.key_schema.specs.Keys.{spelled_key}
 use Rattle.key_schema.specs.declared.key.Key.{Key}
-use Rattle.key_schema.specs.declared.key.Key.TheVariants as keys
-use Rattle.path_walk.specs.Areas.{Area, OneKey, Entries, IsArea, IsRangeOf}
+use Rattle.path_walk.specs.Areas.{Area, OneKey, IsArea, IsRangeArea, IsRangeOf}
 
--- the key is one of the areas', or that of an entry in a directory of theirs
+-- the key is one of the areas', or lies in a range of theirs
 abbrev pub IsTouched : List Area → Key → Type 0
-IsTouched areas key = IsArea (OneKey key) areas ⊎ ((dir : ℕ) × (name : List ℕ) × (key ≡ keys.Dent dir name) × IsArea (Entries dir) areas)
+IsTouched areas key = IsArea (OneKey key) areas ⊎ ((lo : List ℕ) × (hi : List ℕ) × IsRangeArea lo hi areas × (is_inside lo hi (spelled_key key) ≡ true))
 
 abbrev pub AreKeysTouched : List Area → List KeyRead → Type 0
 AreKeysTouched areas [] = Unit {0}
@@ -18,7 +18,7 @@ AreKeysTouched areas (read ∷ reads) = ((key : Key) × (read.key ≡ spelled_ke
 
 abbrev pub AreRangesTouched : List Area → List RangeRead → Type 0
 AreRangesTouched areas [] = Unit {0}
-AreRangesTouched areas (range ∷ ranges) = ((dir : ℕ) × IsArea (Entries dir) areas × IsRangeOf dir range.lo range.hi) × AreRangesTouched areas ranges
+AreRangesTouched areas (range ∷ ranges) = ((lo : List ℕ) × (hi : List ℕ) × IsRangeArea lo hi areas × IsRangeOf range.lo range.hi lo hi) × AreRangesTouched areas ranges
 
 -- each key and each range that was read
 pub record AreTouched (areas : List Area) (reads : ReadSet) : Type 0 where

@@ -3,7 +3,7 @@
 ghost use Rattle.std.specs.Prelude.{◌≡◌, IfOk, MatchOption};
 ghost use Rattle.fs_base.specs.declared.reply.Reply.{Reply};
 ghost use Rattle.txn_task.specs.declared.messages.Ask.TheVariants as asks;
-ghost use Rattle.meta_task.specs.Task.{Fits};
+ghost use Rattle.meta_task.specs.Task.{MayTake};
 ghost use Rattle.meta_task.specs.declared.waiting.Waiting.TheVariants as waits;
 ghost use Rattle.task_runs.specs.Awaiting.{Awaits};
 
@@ -20,7 +20,7 @@ use txn_task::{Answer, Ask};
 
 #[tactic(auto, using(crate::proofs::AwaitLaws::awaits))]
 fn next(task: &mut MetaTask, answer: Answer) -> Result<Ask, Memory>
-    requires { Fits task.old.waiting answer }
+    requires { MayTake task.old.waiting answer }
     ensures { IfOk result (λ ask. Awaits task.new.waiting ask) }
 {
     let ask = task.next(answer)?;

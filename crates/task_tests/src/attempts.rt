@@ -5,7 +5,7 @@ use fs_base::{InodeId, Items, Memory, Text};
 use key_schema::{Key, dir_range};
 use std::alloc::Global;
 use std::test::Fail;
-use txn_task::{Answer, Ask, Txn, Want, WantRange, want_alloc, want_inode, want_range};
+use txn_task::{Answer, Ask, Txn, Want, WantFirst, want_alloc, want_inode, want_range};
 
 /// The number 6 of a server, as it stands in the store.
 const NEXT: &[u8] = b"\x01\x06\0\0\0\0\0\0\0";
@@ -72,9 +72,14 @@ fn an_attempt_keeps_what_it_is_answered(rt: HostRuntime) -> Result<(), Fail> {
     assert!(rt; txn.snapshot() == 7);
     assert!(rt; matches!(want_alloc(alloc, &txn, 0)?, Want::There(6)));
     assert!(rt; matches!(want_inode(alloc, &txn, InodeId::root())?, Want::Ask(_)));
-    assert!(rt; want_range(&txn, InodeId::root()) == WantRange::AskFirst);
+    assert!(rt;
+        matches!(
+            want_range(alloc, &txn, InodeId::root())?,
+            WantFirst::Ask(Ask::Range { limit: 1, .. })
+        )
+    );
     note_no_entry(alloc, &mut txn)?;
-    assert!(rt; want_range(&txn, InodeId::root()) == WantRange::Empty);
+    assert!(rt; matches!(want_range(alloc, &txn, InodeId::root())?, WantFirst::Empty));
     puts(alloc, &mut txn)?;
     let (reads, writes) = txn.into_sets();
     assert!(rt; were_read(&reads));

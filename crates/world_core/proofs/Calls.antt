@@ -24,6 +24,8 @@ use Rattle.client_core.specs.declared.plan.Script.{Script}
 use Rattle.run_record.specs.Receipts.{fronts_of}
 use Rattle.run_record.specs.declared.run.Listed.{Listed}
 use Rattle.world_core.specs.Answered.{IsExchange}
+use Rattle.path_walk.specs.Footprint.{footprint}
+use Rattle.path_walk.specs.Owed.{HasRead}
 use Rattle.world_core.specs.Kept.{AreCovered, AreNamed, IsCovered, IsPast, IsPending, IsSeat, IsUnderWay, IsWork, IsWorking}
 use Rattle.world_core.specs.Objects.{IsGrowth, entries_of, with_entry}
 use Rattle.world_core.specs.Ready.{GoesOn, HasEnded, IsReady, is_done, listed_of}
@@ -85,18 +87,19 @@ grown_past C attempts k script op receipts client store after growth few h =
           subst (λ (es : List Entry). IsPast C attempts es k script op receipts) (sym entries) (IsPast-grown C (entries_of store.journal) grew.0 attempts (omega arith) k script op receipts h))
     ]
 
-covered_more : (C : Settings) (es : List Entry) (e : Entry) → AreCovered C es → IsCovered C e.request e.reads → AreCovered C (es ++ e ∷ [])
+covered_more : (C : Settings) (es : List Entry) (e : Entry) → AreCovered C es → IsCovered C e.request e.reads × HasRead C (λ T. footprint C T e.request) e.reads → AreCovered C (es ++ e ∷ [])
 covered_more C es e all this place entry at =
     elim (EntryAt_cases es e place entry at) [
       | inl old ↦ all place entry old
-      | inr new ↦ subst (λ (x : Entry). IsCovered C x.request x.reads) (sym new.1) this
+      | inr new ↦ subst (λ (x : Entry). IsCovered C x.request x.reads × HasRead C (λ T. footprint C T x.request) x.reads) (sym new.1) this
     ]
 
--- an entry that waits to be committed read within its footprint
-commit_covered : (C : Settings) (attempts : ℕ) (journal : List Entry) (script : Script) (op : ℕ) (receipts : List Listed) (front : ℕ) (task : TaskView) (entry : Entry) → IsUnderWay C attempts journal script op receipts front task → IsPending C task (asks.Commit entry) → IsCovered C entry.request entry.reads
+-- an entry that waits to be committed read its footprint, and nothing else
+commit_covered : (C : Settings) (attempts : ℕ) (journal : List Entry) (script : Script) (op : ℕ) (receipts : List Listed) (front : ℕ) (task : TaskView) (entry : Entry) → IsUnderWay C attempts journal script op receipts front task → IsPending C task (asks.Commit entry)
+    → IsCovered C entry.request entry.reads × HasRead C (λ T. footprint C T entry.request) entry.reads
 commit_covered C attempts journal script op receipts front task entry u p =
     let begun = u.task_is.begun p.1 in
-    subst (λ (q : Request). IsCovered C q entry.reads) (sym p.2) (subst (λ (r : ReadSet). IsCovered C task.request r) (sym p.3) begun.covered)
+    (subst (λ (q : Request). IsCovered C q entry.reads) (sym p.2) (subst (λ (r : ReadSet). IsCovered C task.request r) (sym p.3) begun.covered), p.5)
 
 pub growth_is : (C : Settings) (attempts : ℕ) (script : Script) (op : ℕ) (receipts : List Listed) (work : Work) (store after : Store MetaEntry) → IsWork C attempts (entries_of store.journal) script op receipts work
     → (after ≡ store) ⊎ ((entry : Entry) × (work.ask ≡ asks.Commit entry) × (after ≡ with_entry store entry)) → IsGrowth store after script.id

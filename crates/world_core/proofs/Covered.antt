@@ -3,7 +3,6 @@ use Rattle.std.proofs.Common.{◌≡◌, inl, inr, ℕ, Bool, true, false, List,
 use Rattle.std.specs.Prelude.{Option, codes, ◌==◌, length, if◌then◌else◌}
 use Rattle.std.specs.List.{list_any}
 use Rattle.std.specs.Ordering.{is_eq, is_lt, is_ge, is_le}
-use Rattle.std.specs.Int.{w64, to_le_bytes}
 use Rattle.std.specs.declared.cmp.Ordering.TheVariants.{Less, Greater}
 use Rattle.std.proofs.lemmas.Bool.{or_cases}
 use Rattle.conflict_sets.specs.Keys.{key_cmp}
@@ -19,24 +18,22 @@ use Rattle.fs_base.specs.Config.{Settings}
 use Rattle.fs_base.specs.declared.call.Request.{Request}
 use Rattle.fs_base.specs.declared.row.Row.{Row}
 use Rattle.key_schema.specs.Keys.{spelled_key, IsSpellable}
-use Rattle.key_schema.specs.Ranges.{dir_prefix, raised}
 use Rattle.key_schema.specs.declared.key.Key.{Key}
-use Rattle.key_schema.specs.declared.key.Key.TheVariants as keys
 use Rattle.key_schema.proofs.KeyLaws.{one_key_each}
 use Rattle.row_tree.specs.HasTree.{HasTree}
 use Rattle.row_tree.specs.TreeOf.{tree_of}
 use Rattle.row_tree.specs.TypedRows.{TypedRows}
-use Rattle.row_tree.proofs.Prefixes.{prefix_of}
 use Rattle.tree_model.specs.Tree.{Tree}
-use Rattle.path_walk.specs.Areas.{Area, OneKey, Entries, IsArea, IsRangeOf}
+use Rattle.path_walk.specs.Areas.{Area, OneKey, IsArea, IsRangeOf}
 use Rattle.path_walk.specs.Footprint.{footprint}
 use Rattle.path_walk.specs.Owed.{MayAsk}
+use Rattle.path_walk.proofs.AreaLaws.{next_reaches}
 use Rattle.txn_task.specs.Agreeing.{Agrees}
 use Rattle.txn_task.specs.Transactions.{with_key, with_range}
 use Rattle.txn_task.specs.declared.messages.Ask.TheVariants as asks
 use Rattle.run_record.specs.Touched.{IsTouched, AreTouched, AreKeysTouched, AreRangesTouched}
 use Rattle.world_core.specs.Kept.{IsCovered}
-use Rattle.world_core.proofs.Fitting.{AreaFits, IsWord, RequestFits, area_fits}
+use Rattle.world_core.proofs.Fitting.{AreaFits, RequestFits, area_fits}
 
 -- ---- one more read
 
@@ -88,23 +85,23 @@ pub covered_none : (C : Settings) (q : Request) → IsCovered C q (record { keys
 covered_none C q S good agrees = record { keys = tt; ranges = tt }
 
 -- a key, or rows, that could be asked for
-pub covered_key : (C : Settings) (q : Request) (reads : ReadSet) (key : Key) (value : Option (List ℕ)) → MayAsk C (λ T. footprint T q) reads (asks.Get key) → IsCovered C q reads → IsCovered C q (with_key reads (spelled_key key) value)
+pub covered_key : (C : Settings) (q : Request) (reads : ReadSet) (key : Key) (value : Option (List ℕ)) → MayAsk C (λ T. footprint C T q) reads (asks.Get key) → IsCovered C q reads → IsCovered C q (with_key reads (spelled_key key) value)
 covered_key C q reads key value may h S good agrees =
     let less : Agrees S reads = before_key S reads (spelled_key key) value agrees in
-    let old : AreTouched (footprint (tree_of S) q) reads = h S good less in
+    let old : AreTouched (footprint C (tree_of S) q) reads = h S good less in
     record {
-      keys = KeysTouched-push (footprint (tree_of S) q) reads.keys (record { key = spelled_key key; value = value }) old.keys ((key, refl, may S good less), tt);
+      keys = KeysTouched-push (footprint C (tree_of S) q) reads.keys (record { key = spelled_key key; value = value }) old.keys ((key, refl, next_reaches reads (footprint C (tree_of S) q) (asks.Get key) (may S good less)), tt);
       ranges = old.ranges;
     }
 
-pub covered_range : (C : Settings) (q : Request) (reads : ReadSet) (lo hi : List ℕ) (limit : ℕ) (rows : List Row) → MayAsk C (λ T. footprint T q) reads (asks.Range lo hi limit) → IsCovered C q reads
+pub covered_range : (C : Settings) (q : Request) (reads : ReadSet) (lo hi : List ℕ) (limit : ℕ) (rows : List Row) → MayAsk C (λ T. footprint C T q) reads (asks.Range lo hi limit) → IsCovered C q reads
     → IsCovered C q (with_range reads (record { lo = lo; hi = hi; limit = limit; rows = rows }))
 covered_range C q reads lo hi limit rows may h S good agrees =
     let less : Agrees S reads = before_range S reads (record { lo = lo; hi = hi; limit = limit; rows = rows }) agrees in
-    let old : AreTouched (footprint (tree_of S) q) reads = h S good less in
+    let old : AreTouched (footprint C (tree_of S) q) reads = h S good less in
     record {
       keys = old.keys;
-      ranges = RangesTouched-push (footprint (tree_of S) q) reads.ranges (record { lo = lo; hi = hi; limit = limit; rows = rows }) old.ranges (may S good less, tt);
+      ranges = RangesTouched-push (footprint C (tree_of S) q) reads.ranges (record { lo = lo; hi = hi; limit = limit; rows = rows }) old.ranges (next_reaches reads (footprint C (tree_of S) q) (asks.Range lo hi limit) (may S good less), tt);
     }
 
 -- ---- a key that was held
@@ -152,22 +149,14 @@ both_true : (a b : Bool) → a ≡ true → b ≡ true → (a && b) ≡ true
 both_true true b x y = y
 both_true false b x y = absurd (let f : false ≡ true = x in cc)
 
-dent_bytes : (dir : ℕ) (name : List ℕ) → dir_prefix dir ++ name ≡ spelled_key (keys.Dent dir name)
-unfolding spelled_key
-dent_bytes dir name = refl
+-- a key in a range that was read lies in the area's range
+range_key : (from to lo hi : List ℕ) (key : List ℕ) → IsRangeOf from to lo hi → is_ge (key_cmp key from) ≡ true → is_lt (key_cmp key to) ≡ true → is_inside lo hi key ≡ true
+range_key from to lo hi key of behind before =
+    both_true (is_ge (key_cmp key lo)) (is_lt (key_cmp key hi)) (above_both lo from key of.0 behind) (ap (λ h. is_lt (key_cmp key h)) (sym of.1) ∙ before)
 
--- a key in a directory's range is that of an entry in it
-range_key : (dir : ℕ) (lo hi : List ℕ) (key : Key) → IsWord dir → IsSpellable key → IsRangeOf dir lo hi → is_ge (key_cmp (spelled_key key) lo) ≡ true → is_lt (key_cmp (spelled_key key) hi) ≡ true → (name : List ℕ) × (key ≡ keys.Dent dir name)
-range_key dir lo hi key small valid of from to =
-    let low : is_ge (key_cmp (spelled_key key) (dir_prefix dir)) ≡ true = above_both (dir_prefix dir) lo (spelled_key key) of.0 from in
-    let high : is_lt (key_cmp (spelled_key key) (raised (dir_prefix dir))) ≡ true = ap (λ h. is_lt (key_cmp (spelled_key key) h)) (sym of.1) ∙ to in
-    let inside : is_inside (dir_prefix dir) (raised (dir_prefix dir)) (spelled_key key) ≡ true = both_true (is_ge (key_cmp (spelled_key key) (dir_prefix dir))) (is_lt (key_cmp (spelled_key key) (raised (dir_prefix dir)))) low high in
-    let found : (n : List ℕ) × (spelled_key key ≡ dir_prefix dir ++ n) = prefix_of 68 (codes "ENT" ++ to_le_bytes w64 dir) (spelled_key key) inside in
-    (found.0, one_key_each key (keys.Dent dir found.0) valid small (found.1 ∙ dent_bytes dir found.0))
-
-range_touched : (areas : List Area) (reads : List RangeRead) (key : Key) → IsSpellable key → ((area : Area) → IsArea area areas → AreaFits area) → AreRangesTouched areas reads → list_any (λ (read : RangeRead). range_holds read (spelled_key key)) reads ≡ true → IsTouched areas key
-range_touched areas [] key valid fit h e = absurd (let f : false ≡ true = e in cc)
-range_touched areas (r ∷ reads) key valid fit h e =
+range_touched : (areas : List Area) (reads : List RangeRead) (key : Key) → AreRangesTouched areas reads → list_any (λ (read : RangeRead). range_holds read (spelled_key key)) reads ≡ true → IsTouched areas key
+range_touched areas [] key h e = absurd (let f : false ≡ true = e in cc)
+range_touched areas (r ∷ reads) key h e =
     elim (or_cases (range_holds r (spelled_key key)) (list_any (λ (read : RangeRead). range_holds read (spelled_key key)) reads) e) [
       | inl here ↦
           (let from_lo : Bool = is_ge (key_cmp (spelled_key key) r.lo) in
@@ -175,21 +164,21 @@ range_touched areas (r ∷ reads) key valid fit h e =
           let both : (from_lo && below_hi) ≡ true = and_left (from_lo && below_hi) (if length r.rows == r.limit then is_up_to_last r.rows (spelled_key key) else true) here in
           let from : from_lo ≡ true = and_left from_lo below_hi both in
           let to : below_hi ≡ true = and_right from_lo below_hi both in
-          let found : (name : List ℕ) × (key ≡ keys.Dent h.0.0 name) = range_key h.0.0 r.lo r.hi key (fit (Entries h.0.0) h.0.1) valid h.0.2 from to in
-          inr (h.0.0, found.0, found.1, h.0.1))
-      | inr later ↦ range_touched areas reads key valid fit h.1 later
+          let area = h.0 in
+          inr (area.0, area.1, area.2, range_key r.lo r.hi area.0 area.1 (spelled_key key) area.3 from to))
+      | inr later ↦ range_touched areas reads key h.1 later
     ]
 
 -- A key that reads hold, where rows of the tree agree with them, is touched.
 pub held_touched : (C : Settings) (q : Request) (reads : ReadSet) (rows : List Row) (T : Tree) (key : Key) → RequestFits q → IsCovered C q reads → IsAscending rows → HasTree C rows T → bytes.Agrees rows reads → IsSpellable key → reads_hold reads (spelled_key key) ≡ true
-    → IsTouched (footprint T q) key
+    → IsTouched (footprint C T q) key
 held_touched C q reads rows T key request covered ascending tree agrees fits held =
     let S : TypedRows = tree.0 in
-    let areas : List Area = footprint (tree_of S) q in
+    let areas : List Area = footprint C (tree_of S) q in
     let touched : AreTouched areas reads = covered S tree.2 (record { rows = rows; ascending = ascending; spells = tree.1; agrees = agrees }) in
-    let fit : (area : Area) → IsArea area areas → AreaFits area = area_fits rows S q tree.1 request in
+    let fit : (area : Area) → IsArea area areas → AreaFits area = area_fits C rows S q tree.1 request in
     let here : IsTouched areas key = elim (or_cases (list_any (λ (read : KeyRead). is_eq (key_cmp (spelled_key key) read.key)) reads.keys) (list_any (λ (read : RangeRead). range_holds read (spelled_key key)) reads.ranges) held) [
       | inl in_keys ↦ key_touched areas reads.keys key fits fit touched.keys in_keys
-      | inr in_ranges ↦ range_touched areas reads.ranges key fits fit touched.ranges in_ranges
+      | inr in_ranges ↦ range_touched areas reads.ranges key touched.ranges in_ranges
     ] in
-    subst (λ (t : Tree). IsTouched (footprint t q) key) tree.3 here
+    subst (λ (t : Tree). IsTouched (footprint C t q) key) tree.3 here

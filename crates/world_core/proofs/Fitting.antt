@@ -1,8 +1,9 @@
 -- The keys and ranges that a call may read have numbers that fit their bytes.
 use Rattle.std.proofs.Common.{◌≡◌, inl, inr, ℕ, zero, suc, ◌<◌, ◌^◌, Bool, true, false, cond, List, [], ◌∷◌, ◌++◌, refl, sym, ap, subst, ◌∙◌, arith}
-use Rattle.std.specs.Prelude.{Option, Some, None, Result, Ok, Err, if◌then◌else◌}
+use Rattle.std.specs.Prelude.{nat_lt, Option, Some, None, Result, Ok, Err, if◌then◌else◌}
 use Rattle.std.specs.Option.{option_map}
 use Rattle.std.specs.FinMap.{get}
+use Rattle.fs_base.specs.Config.{Settings}
 use Rattle.fs_base.specs.Paths.{path_of}
 use Rattle.fs_base.specs.declared.call.Call.{Call}
 use Rattle.fs_base.specs.declared.call.Call.TheVariants as calls
@@ -21,6 +22,8 @@ use Rattle.row_tree.specs.TreeOf.{tree_of}
 use Rattle.row_tree.specs.TypedRows.{TypedRows}
 use Rattle.row_tree.specs.Values.{InodeValue}
 use Rattle.row_tree.proofs.Telling.{node_is}
+use Rattle.tree_model.specs.declared.kept.KeptReply.{KeptReply}
+use Rattle.tree_model.specs.declared.new_node.NewNode.{NewNode}
 use Rattle.tree_model.specs.declared.node.Node.{Node}
 use Rattle.tree_model.specs.declared.node.NodePart.{NodePart}
 use Rattle.tree_model.specs.declared.node.NodePart.TheVariants as nodes
@@ -29,10 +32,12 @@ use Rattle.tree_model.specs.declared.walk.WalkEnd.TheVariants.{Follow, NoFollow,
 use Rattle.tree_model.specs.declared.walk.Walked.{Walked}
 use Rattle.tree_model.specs.declared.walk.Walked.TheVariants.{At, AtParent, NoName, Stopped}
 use Rattle.tree_model.specs.Calls.{is_query}
+use Rattle.tree_model.specs.Creating.{new_dir, new_file, new_link}
 use Rattle.tree_model.specs.Tree.{Tree}
 use Rattle.tree_model.specs.Walk.{Visit, Inode, Entry, Trip, Behind, stay, visiting, ends_at, at_file, is_last_of_parent, is_last_unfollowed, on_target, at_link, at_part, at_node, at_entry, down, walk, if_dir, from_base, looks_at_base, travel}
-use Rattle.path_walk.specs.Areas.{Area, OneKey, Entries, IsArea, walked_areas, trip_areas}
-use Rattle.path_walk.specs.Footprint.{on_words, along, nothing_at, inode_at, link_at, entries_at, child_at, call_areas, footprint}
+use Rattle.path_walk.specs.Areas.{Area, OneKey, FirstRow, Pages, IsArea, walked_areas, trip_areas}
+use Rattle.path_walk.specs.Faults.{node_fault}
+use Rattle.path_walk.specs.Footprint.{on_words, unless_fault, along, nothing_at, inode_at, link_at, entries_at, in_part, in_dir, if_free, child_at, makes, call_areas, if_new, footprint}
 use Rattle.client_core.specs.Ops.{call_of}
 use Rattle.client_core.specs.Plans.{IsOp}
 use Rattle.client_core.specs.declared.plan.Op.{Op}
@@ -44,7 +49,8 @@ IsWord id = id < 2 ^ 64
 
 abbrev pub AreaFits : Area → Type 0
 AreaFits (OneKey key) = IsSpellable key
-AreaFits (Entries dir) = IsWord dir
+AreaFits (FirstRow lo hi) = Unit {0}
+AreaFits (Pages lo hi) = Unit {0}
 
 abbrev AllFit : List Area → Type 0
 AllFit [] = Unit {0}
@@ -164,15 +170,25 @@ visits_fit [] end h = tt
 visits_fit (Inode id ∷ visits) end h = (h.0, visits_fit visits end h.1)
 visits_fit (Entry dir name ∷ visits) end h = (h.0, visits_fit visits end h.1)
 
-along_fits : (T : Tree) → NodesFit T → (place : Place) (end : WalkEnd) (at : Walked → List Area) → IsWord place.base → ((walked : Walked) → EndFits walked → AllFit (at walked)) → AllFit (along T place end at)
-along_fits T fit place end at small ends = by_words (path_of place.text)
+along_fits : (T : Tree) → NodesFit T → (place : Place) (end : WalkEnd) (fault : Option Code) (at : Walked → List Area) → IsWord place.base → ((walked : Walked) → EndFits walked → AllFit (at walked)) → AllFit (along T place end fault at)
+along_fits T fit place end fault at small ends = by_words (path_of place.text)
   where
-    by_words : (r : Result Path Code) → AllFit (on_words r (λ path. trip_areas (travel T place.base path end) at))
-    by_words (Err code) = tt
-    by_words (Ok path) =
+    stopped : (code : Code) → AllFit (trip_areas (stay (Stopped code)) at)
+    stopped code = ends (Stopped code) tt
+
+    walked : (path : Path) → AllFit (trip_areas (travel T place.base path end) at)
+    walked path =
         let trip : TripFits (travel T place.base path end) = travel_fits T fit place.base path end small in
         all_fit-append (walked_areas (travel T place.base path end)) (at (travel T place.base path end).end)
         (visits_fit (travel T place.base path end).visits (travel T place.base path end).end trip.1) (ends (travel T place.base path end).end trip.0)
+
+    by_fault : (fault : Option Code) (path : Path) → AllFit (trip_areas (unless_fault fault (travel T place.base path end)) at)
+    by_fault None path = walked path
+    by_fault (Some code) path = stopped code
+
+    by_words : (r : Result Path Code) → AllFit (trip_areas (on_words r (λ path. unless_fault fault (travel T place.base path end))) at)
+    by_words (Err code) = stopped code
+    by_words (Ok path) = by_fault fault path
 
 inode_fits : (walked : Walked) → EndFits walked → AllFit (inode_at walked)
 inode_fits (At id kind) h = (h, tt)
@@ -189,18 +205,37 @@ link_end_fits (NoName dir) h = tt
 link_end_fits (Stopped code) h = tt
 
 entries_fit : (walked : Walked) → EndFits walked → AllFit (entries_at walked)
-entries_fit (At id kinds.Dir) h = (h, tt)
+entries_fit (At id kinds.Dir) h = (tt, tt)
 entries_fit (At id kinds.File) h = tt
 entries_fit (At id kinds.Link) h = tt
 entries_fit (AtParent dir name) h = tt
 entries_fit (NoName dir) h = tt
 entries_fit (Stopped code) h = tt
 
-child_fits : (server : ℕ) (walked : Walked) → EndFits walked → AllFit (child_at server walked)
-child_fits server (AtParent dir name) h = (h, (h, (tt, tt)))
-child_fits server (At id kind) h = tt
-child_fits server (NoName dir) h = tt
-child_fits server (Stopped code) h = tt
+part_areas : (part : NodePart) (areas : List Area) → AllFit areas → AllFit (in_part part areas)
+part_areas (nodes.Dir layout) areas h = h
+part_areas (nodes.File length truncs layout hint) areas h = tt
+part_areas (nodes.Link target) areas h = tt
+
+dir_areas : (o : Option Node) (areas : List Area) → AllFit areas → AllFit (in_dir o areas)
+dir_areas None areas h = tt
+dir_areas (Some node) areas h = part_areas node.part areas h
+
+free_areas : (o : Option ℕ) (areas : List Area) → AllFit areas → AllFit (if_free o areas)
+free_areas None areas h = h
+free_areas (Some id) areas h = tt
+
+child_fits : (server : ℕ) (T : Tree) (walked : Walked) → EndFits walked → AllFit (child_at server T walked)
+child_fits server T (AtParent dir name) h = (
+  h,
+  dir_areas (get T.nodes dir) (OneKey (keys.Dent dir name) ∷ if_free (get T.entries (dir, name)) (OneKey (keys.Alloc server) ∷ [])) (h, free_areas (get T.entries (dir, name)) (OneKey (keys.Alloc server) ∷ []) (tt, tt)),
+)
+child_fits server T (At id kind) h = tt
+child_fits server T (NoName dir) h = tt
+child_fits server T (Stopped code) h = tt
+
+makes_fit : (C : Settings) (T : Tree) → NodesFit T → (server : ℕ) (place : Place) (node : NewNode) → IsWord place.base → AllFit (makes C T server place node)
+makes_fit C T fit server place node small = along_fits T fit place Parent (node_fault C node) (child_at server T) small (child_fits server T)
 
 -- the place that a call's walk starts at
 abbrev pub BaseFits : Call → Type 0
@@ -214,31 +249,39 @@ BaseFits (calls.Symlink place target) = IsWord place.base
 BaseFits (calls.Setattr place changes) = IsWord place.base
 BaseFits call = Unit {0}
 
-call_fits : (T : Tree) → NodesFit T → (server : ℕ) (call : Call) → BaseFits call → AllFit (call_areas T server call)
-call_fits T fit server (calls.Lookup place) small = along_fits T fit place NoFollow nothing_at small (λ walked h. tt)
-call_fits T fit server (calls.Stat place) small = along_fits T fit place Follow inode_at small inode_fits
-call_fits T fit server (calls.List place) small = along_fits T fit place Follow entries_at small entries_fit
-call_fits T fit server (calls.Readlink place) small = along_fits T fit place NoFollow link_at small link_end_fits
-call_fits T fit server (calls.Mkdir place mode layout) small = along_fits T fit place Parent (child_at server) small (child_fits server)
-call_fits T fit server (calls.Create place mode layout) small = along_fits T fit place Parent (child_at server) small (child_fits server)
-call_fits T fit server (calls.Symlink place target) small = along_fits T fit place Parent (child_at server) small (child_fits server)
-call_fits T fit server (calls.Setattr place changes) small = along_fits T fit place Follow inode_at small inode_fits
-call_fits T fit server call small = tt
+call_fits : (C : Settings) (T : Tree) → NodesFit T → (server : ℕ) (call : Call) → BaseFits call → AllFit (call_areas C T server call)
+call_fits C T fit server (calls.Lookup place) small = along_fits T fit place NoFollow None nothing_at small (λ walked h. tt)
+call_fits C T fit server (calls.Stat place) small = along_fits T fit place Follow None inode_at small inode_fits
+call_fits C T fit server (calls.List place) small = along_fits T fit place Follow None entries_at small entries_fit
+call_fits C T fit server (calls.Readlink place) small = along_fits T fit place NoFollow None link_at small link_end_fits
+call_fits C T fit server (calls.Mkdir place mode layout) small = makes_fit C T fit server place (new_dir mode layout) small
+call_fits C T fit server (calls.Create place mode layout) small = makes_fit C T fit server place (new_file mode layout) small
+call_fits C T fit server (calls.Symlink place target) small = makes_fit C T fit server place (new_link target) small
+call_fits C T fit server (calls.Setattr place changes) small = along_fits T fit place Follow None inode_at small inode_fits
+call_fits C T fit server call small = tt
 
 -- a client of 16 bytes, and a base of eight
 pub record RequestFits (q : Request) : Type 0 where
   pub client : q.client.0 < 2 ^ 128
   pub base : BaseFits q.call
 
-footprint_fits : (T : Tree) → NodesFit T → (q : Request) → RequestFits q → AllFit (footprint T q)
-footprint_fits T fit q h = by_query (is_query q.call)
+new_areas : (o : Option KeptReply) (number : ℕ) (areas : List Area) → AllFit areas → AllFit (if_new o number areas)
+new_areas None number areas h = h
+new_areas (Some kept) number areas h = by_less (nat_lt kept.number number)
   where
-    rest : AllFit (call_areas T q.server q.call)
-    rest = call_fits T fit q.server q.call h.base
+    by_less : (b : Bool) → AllFit (cond b areas [])
+    by_less true = h
+    by_less false = tt
 
-    by_query : (b : Bool) → AllFit (cond b (call_areas T q.server q.call) (OneKey (keys.Idem q.client) ∷ call_areas T q.server q.call))
+footprint_fits : (C : Settings) (T : Tree) → NodesFit T → (q : Request) → RequestFits q → AllFit (footprint C T q)
+footprint_fits C T fit q h = by_query (is_query q.call)
+  where
+    rest : AllFit (call_areas C T q.server q.call)
+    rest = call_fits C T fit q.server q.call h.base
+
+    by_query : (b : Bool) → AllFit (cond b (call_areas C T q.server q.call) (OneKey (keys.Idem q.client) ∷ if_new (get T.kept q.client.0) q.number (call_areas C T q.server q.call)))
     by_query true = rest
-    by_query false = (h.client, rest)
+    by_query false = (h.client, new_areas (get T.kept q.client.0) q.number (call_areas C T q.server q.call) rest)
 
 -- ---- in rows
 
@@ -253,8 +296,8 @@ nodes_fit R S spells id node there = by_row (get S.inodes id) refl
     by_row (Some row) is = below id (spells.fits (keys.Inode id) (InodeValue row) (ap (option_map InodeValue) is)).0
 
 -- what may be read in rows
-pub area_fits : (R : List Row) (S : TypedRows) (q : Request) → Spells R S → RequestFits q → (area : Area) → IsArea area (footprint (tree_of S) q) → AreaFits area
-area_fits R S q spells h area there = fits_at (footprint (tree_of S) q) area (footprint_fits (tree_of S) (nodes_fit R S spells) q h) there
+pub area_fits : (C : Settings) (R : List Row) (S : TypedRows) (q : Request) → Spells R S → RequestFits q → (area : Area) → IsArea area (footprint C (tree_of S) q) → AreaFits area
+area_fits C R S q spells h area there = fits_at (footprint C (tree_of S) q) area (footprint_fits C (tree_of S) (nodes_fit R S spells) q h) there
 
 -- the base of an operation's call
 pub op_fits : (step : Op) → IsOp step → BaseFits (call_of step)

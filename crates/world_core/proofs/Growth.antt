@@ -76,7 +76,7 @@ module _ (C : Settings) (es : List Entry) (new : Entry) where
         at = EntryAt-grown es new h.place h.entry h.at;
         other = h.other;
         wrote = h.wrote;
-        touched = subst (λ (T : Tree). IsTouched (footprint T request) pair.1) (sym same) h.touched;
+        touched = subst (λ (T : Tree). IsTouched (footprint C T request) pair.1) (sym same) h.touched;
       }
 
   pub AreConflicts-grown : (request : Request) (floor : ℕ) (pairs : List (ℕ × Key)) → AreConflicts C es request floor pairs → AreConflicts C (es ++ new ∷ []) request floor pairs

@@ -285,7 +285,7 @@ module _ (C : Settings) (journal : List Entry) (s : IsSoundJournal C journal) (c
       none : (o : Option (Option (List ℕ))) → written_at e.writes.writes key ≡ o → o ≡ None
       none None is = refl
       none (Some v) is =
-          absurd (sound.kept client small v is (journal_rows C journal place) (tree_at C journal place) (rows_ascend C journal s place) (rows_tree C journal s place) parts.1
+          absurd (sound.changes (keys.Idem client) tt small v is (journal_rows C journal place) (tree_at C journal place) (rows_ascend C journal s place) (rows_tree C journal s place) parts.1
           (sym stays ∙ (value ∙ ap (λ o. unwrap_or o (value_at_key (journal_rows C journal place) key)) is)))
 
   pub kept_by : (n : ℕ) → n ≤ length journal → (get (tree_at C journal n).kept client.0 ≡ None) ⊎ IsKeptBy C journal n client

@@ -7,11 +7,13 @@ use Rattle.std.proofs.lemmas.List.Sums.{sum_by-append, sum_by-cons}
 use Rattle.std.proofs.lemmas.Option.{same_Some}
 use Rattle.fs_base.specs.Config.{Settings}
 use Rattle.fs_base.specs.declared.ids.ClientId.{ClientId}
+use Rattle.path_walk.specs.Areas.{AreRead}
 use Rattle.path_walk.specs.Footprint.{footprint}
 use Rattle.row_tree.specs.HasTree.{HasTree}
 use Rattle.tree_model.specs.Calls.{effect}
 use Rattle.tree_model.specs.Effects.{Makes, at_length, settled_by}
 use Rattle.tree_model.specs.Tree.{Tree}
+use Rattle.txn_task.specs.Agreeing.{Agrees}
 use Rattle.txn_task.specs.declared.messages.Entry.{Entry}
 use Rattle.client_core.specs.Client.{ClientView, has_ended}
 use Rattle.client_core.specs.Plans.{AreDistinct}
@@ -41,10 +43,13 @@ entry_right C journal place e s covered at =
     let tree : HasTree C (journal_rows C journal place) (tree_at C journal place) = rows_tree C journal s place in
     let tree_here : Tree = tree_at C journal place in
     let made : (V : Tree) × (at_length (settled_by e.reply) (effect C tree_here e.request) ≡ Makes V e.reply) = sound.0.makes (journal_rows C journal place) tree_here (rows_ascend C journal s place) tree sound.1 in
+    let agreeing : Agrees tree.0 e.reads = record { rows = journal_rows C journal place; ascending = rows_ascend C journal s place; spells = tree.1; agrees = sound.1 } in
+    let read = covered place e at in
     record {
       agrees = sound.1;
-      touched = subst (λ (T : Tree). AreTouched (footprint T e.request) e.reads) tree.3
-          (covered place e at tree.0 tree.2 (record { rows = journal_rows C journal place; ascending = rows_ascend C journal s place; spells = tree.1; agrees = sound.1 }));
+      sound = sound.0;
+      touched = subst (λ (T : Tree). AreTouched (footprint C T e.request) e.reads) tree.3 (read.0 tree.0 tree.2 agreeing);
+      whole = subst (λ (T : Tree). AreRead e.reads (footprint C T e.request)) tree.3 (read.1 tree.0 tree.2 agreeing);
       none_asked = sound.0.none_asked;
       update = sound.0.update;
       accepted = made_reply C tree_here made.0 e.request e.reply made.1;

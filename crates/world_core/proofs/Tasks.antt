@@ -12,7 +12,7 @@ use Rattle.key_schema.specs.Keys.{spelled_key, IsSpellable}
 use Rattle.key_schema.specs.declared.key.Key.{Key}
 use Rattle.kv_store.specs.Journal.{first_later}
 use Rattle.path_walk.specs.Footprint.{footprint}
-use Rattle.path_walk.specs.Owed.{MayAsk}
+use Rattle.path_walk.specs.Owed.{HasRead, MayAsk}
 use Rattle.path_walk.specs.Sound.{IsSoundEntry}
 use Rattle.txn_task.specs.Transactions.{with_key, with_range}
 use Rattle.txn_task.specs.declared.messages.Answer.{Answer}
@@ -21,7 +21,7 @@ use Rattle.txn_task.specs.declared.messages.Ask.{Ask}
 use Rattle.txn_task.specs.declared.messages.Ask.TheVariants as asks
 use Rattle.txn_task.specs.declared.messages.Entry.{Entry}
 use Rattle.txn_task.specs.declared.outcome.Outcome.{Outcome}
-use Rattle.meta_task.specs.Task.{TaskView, new_task, learnt, reads_with, Asks, HasOrigin, Fits}
+use Rattle.meta_task.specs.Task.{TaskView, new_task, learnt, reads_with, Asks, HasOrigin, HasReadAll, Fits, MayTake}
 use Rattle.meta_task.specs.declared.waiting.Waiting.{Waiting}
 use Rattle.meta_task.specs.declared.waiting.Waiting.TheVariants as waits
 use Rattle.client_core.specs.Ops.{request_of}
@@ -83,7 +83,7 @@ module _ (C : Settings) (attempts : ℕ) (journal : List Entry) (front : ℕ) wh
       }
 
   -- one more key
-  pub IsTask_got : (task : TaskView) (key : Key) (got : Got) → task.begun ≡ true → task.waiting ≡ waits.Reading (asks.Get key) → MayAsk C (λ T. footprint T task.request) task.reads (asks.Get key)
+  pub IsTask_got : (task : TaskView) (key : Key) (got : Got) → task.begun ≡ true → task.waiting ≡ waits.Reading (asks.Get key) → MayAsk C (λ T. footprint C T task.request) task.reads (asks.Get key)
       → got.value ≡ value_at_key (journal_rows C journal task.snapshot) (spelled_key key) → IsTask C attempts journal front task → IsTask C attempts journal front (learnt task (answers.Got got))
   IsTask_got task key got begun waiting may value h =
       let k : IsBegun C journal task.request.client (last_version front task.conflicts) task = h.begun begun in
@@ -94,7 +94,7 @@ module _ (C : Settings) (attempts : ℕ) (journal : List Entry) (front : ℕ) wh
       (IsTask-reads task (with_key task.reads (spelled_key key) got.value) begun h agrees (covered_key C task.request task.reads key got.value may k.covered))
 
   -- one more range
-  pub IsTask_rows : (task : TaskView) (lo hi : List ℕ) (limit : ℕ) (rows : List Row) → task.begun ≡ true → task.waiting ≡ waits.Reading (asks.Range lo hi limit) → MayAsk C (λ T. footprint T task.request) task.reads (asks.Range lo hi limit)
+  pub IsTask_rows : (task : TaskView) (lo hi : List ℕ) (limit : ℕ) (rows : List Row) → task.begun ≡ true → task.waiting ≡ waits.Reading (asks.Range lo hi limit) → MayAsk C (λ T. footprint C T task.request) task.reads (asks.Range lo hi limit)
       → rows ≡ rows_between (journal_rows C journal task.snapshot) lo hi limit → IsTask C attempts journal front task → IsTask C attempts journal front (learnt task (answers.Rows rows))
   IsTask_rows task lo hi limit rows begun waiting may value h =
       let k : IsBegun C journal task.request.client (last_version front task.conflicts) task = h.begun begun in
@@ -168,8 +168,13 @@ module _ (C : Settings) (attempts : ℕ) (journal : List Entry) (k : ℕ) (scrip
   waiting_is : (task new : TaskView) (w : Waiting) → new ≡ record task { waiting = w } → new.waiting ≡ w
   waiting_is task new w is = ap (λ (t : TaskView). t.waiting) is
 
-  may_in : (new : TaskView) (ask : Ask) → Under new → MayAsk new.config (λ T. footprint T new.request) new.reads ask → MayAsk C (λ T. footprint T new.request) new.reads ask
-  may_in new ask u may = subst (λ (c : Settings). MayAsk c (λ T. footprint T new.request) new.reads ask) u.task_is.config may
+  may_in : (new : TaskView) (ask : Ask) → Under new → MayAsk new.config (λ T. footprint new.config T new.request) new.reads ask → MayAsk C (λ T. footprint C T new.request) new.reads ask
+  may_in new ask u may = subst (λ (c : Settings). MayAsk c (λ T. footprint c T new.request) new.reads ask) u.task_is.config may
+
+  read_in : (new : TaskView) (entry : Entry) → Under new → entry.request ≡ new.request → entry.reads ≡ new.reads → HasReadAll new → HasRead C (λ T. footprint C T entry.request) entry.reads
+  read_in new entry u request reads all =
+      subst (λ (q : Request). HasRead C (λ T. footprint C T q) entry.reads) (sym request)
+      (subst (λ (r : ReadSet). HasRead C (λ T. footprint C T new.request) r) (sym reads) (subst (λ (c : Settings). HasRead c (λ T. footprint c T new.request) new.reads) u.task_is.config all))
 
   -- the next ask waits, or the request has ended
   pub next : (old : TaskView) (answer : Answer) (new : TaskView) → Under old → IsTask C attempts journal front (learnt old answer)
@@ -183,9 +188,9 @@ module _ (C : Settings) (attempts : ℕ) (journal : List Entry) (k : ℕ) (scrip
   next old answer new u t ends (asks.Range lo hi limit) h =
       let under : Under new = under_waiting (learnt old answer) new (waits.Reading (asks.Range lo hi limit)) (under_learnt old answer u t) h.is in
       record { under = under; pending = (waiting_is (learnt old answer) new (waits.Reading (asks.Range lo hi limit)) h.is, h.begun, may_in new (asks.Range lo hi limit) under h.touched) }
-  next old answer new u t ends (asks.Commit entry) (is, begun, goes_on, request, reads, sound) =
+  next old answer new u t ends (asks.Commit entry) (is, begun, goes_on, request, reads, sound, all) =
       let under : Under new = under_waiting (learnt old answer) new (waits.Committing entry.reply) (under_learnt old answer u t) is in
-      record { under = under; pending = (waiting_is (learnt old answer) new (waits.Committing entry.reply) is, begun, request, reads, subst (λ (c : Settings). IsSoundEntry c entry) under.task_is.config sound) }
+      record { under = under; pending = (waiting_is (learnt old answer) new (waits.Committing entry.reply) is, begun, request, reads, subst (λ (c : Settings). IsSoundEntry c entry) under.task_is.config sound, read_in new entry under request reads all) }
   next old answer new u t ends asks.Done (outcome, is, conflicts, origin) =
       let under : Under (learnt old answer) = under_learnt old answer u t in
       (under.step, under.there, outcome, ap (λ (x : TaskView). x.outcome) is, ends under outcome (conflicts ∙ ap (λ (x : TaskView). x.conflicts) is) origin)
@@ -199,16 +204,16 @@ pub may_answer : (C : Settings) (attempts : ℕ) (journal : List Entry) (script 
 may_answer C attempts journal script op receipts front task asks.Begin u p = tt
 may_answer C attempts journal script op receipts front task (asks.Get key) u p = (u.task_is.begun p.1).within
 may_answer C attempts journal script op receipts front task (asks.Range lo hi limit) u p = (u.task_is.begun p.1).within
-may_answer C attempts journal script op receipts front task (asks.Commit entry) u (waiting, begun, request, reads, sound) =
+may_answer C attempts journal script op receipts front task (asks.Commit entry) u (waiting, begun, request, reads, sound, all) =
     let b : IsBegun C journal task.request.client (last_version front task.conflicts) task = u.task_is.begun begun in
     (b.within, sound, subst (λ (r : ReadSet). bytes.Agrees (journal_rows C journal task.snapshot) r) (sym reads) b.agrees)
 may_answer C attempts journal script op receipts front task ask u p = absurd p
 
-by_waiting : (task : TaskView) (w : Waiting) (answer : Answer) → task.waiting ≡ w → Fits w answer → Fits task.waiting answer
-by_waiting task w answer is h = subst (λ (x : Waiting). Fits x answer) (sym is) h
+by_waiting : (task : TaskView) (w : Waiting) (answer : Answer) → task.waiting ≡ w → MayTake w answer → MayTake task.waiting answer
+by_waiting task w answer is h = subst (λ (x : Waiting). MayTake x answer) (sym is) h
 
 -- and its answer is one that the task waits for
-pub fits : (C : Settings) (old new : List Entry) (snapshot : ℕ) (task : TaskView) (ask : Ask) (answer : Answer) → IsPending C task ask → IsAnswer C old new snapshot ask answer → Fits task.waiting answer
+pub fits : (C : Settings) (old new : List Entry) (snapshot : ℕ) (task : TaskView) (ask : Ask) (answer : Answer) → IsPending C task ask → IsAnswer C old new snapshot ask answer → MayTake task.waiting answer
 fits C old new snapshot task asks.Begin (answers.Begun version) p h = by_waiting task waits.Beginning (answers.Begun version) p.0 tt
 fits C old new snapshot task (asks.Get key) (answers.Got got) p h = by_waiting task (waits.Reading (asks.Get key)) (answers.Got got) p.0 tt
 fits C old new snapshot task (asks.Range lo hi limit) (answers.Rows rows) p h = by_waiting task (waits.Reading (asks.Range lo hi limit)) (answers.Rows rows) p.0 tt

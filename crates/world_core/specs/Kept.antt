@@ -7,7 +7,7 @@ use Rattle.fs_base.specs.declared.call.Request.{Request}
 use Rattle.fs_base.specs.declared.ids.ClientId.{ClientId}
 use Rattle.key_schema.specs.declared.key.Key.{Key}
 use Rattle.path_walk.specs.Footprint.{footprint}
-use Rattle.path_walk.specs.Owed.{MayAsk}
+use Rattle.path_walk.specs.Owed.{HasRead, MayAsk}
 use Rattle.path_walk.specs.Sound.{IsSoundEntry}
 use Rattle.row_tree.specs.TreeOf.{tree_of}
 use Rattle.row_tree.specs.TypedRows.{TypedRows}
@@ -60,11 +60,11 @@ AreNamed journal client receipts = (place : ℕ) (entry : Entry) → EntryAt jou
 
 -- what was read lies in the footprint, in all well-formed rows that agree with it
 abbrev pub IsCovered : Settings → Request → ReadSet → Type 0
-IsCovered C request reads = (S : TypedRows) → IsWellFormed C S → Agrees S reads → AreTouched (footprint (tree_of S) request) reads
+IsCovered C request reads = (S : TypedRows) → IsWellFormed C S → Agrees S reads → AreTouched (footprint C (tree_of S) request) reads
 
--- so it was of each entry
+-- so it was of each entry, and the footprint was read whole
 abbrev pub AreCovered : Settings → List Entry → Type 0
-AreCovered C journal = (place : ℕ) (entry : Entry) → EntryAt journal place entry → IsCovered C entry.request entry.reads
+AreCovered C journal = (place : ℕ) (entry : Entry) → EntryAt journal place entry → IsCovered C entry.request entry.reads × HasRead C (λ T. footprint C T entry.request) entry.reads
 
 -- an attempt that has begun
 pub record IsBegun (C : Settings) (journal : List Entry) (client : ClientId) (floor : ℕ) (task : TaskView) : Type 0 where
@@ -90,10 +90,11 @@ pub record IsTask (C : Settings) (attempts : ℕ) (journal : List Entry) (front 
 -- what the ask that waits for its answer owes
 abbrev pub IsPending : Settings → TaskView → Ask → Type 0
 IsPending C task asks.Begin = (task.waiting ≡ waits.Beginning) × (task.begun ≡ false)
-IsPending C task (asks.Get key) = (task.waiting ≡ waits.Reading (asks.Get key)) × (task.begun ≡ true) × MayAsk C (λ T. footprint T task.request) task.reads (asks.Get key)
-IsPending C task (asks.Range lo hi limit) = (task.waiting ≡ waits.Reading (asks.Range lo hi limit)) × (task.begun ≡ true) × MayAsk C (λ T. footprint T task.request) task.reads (asks.Range lo hi limit)
+IsPending C task (asks.Get key) = (task.waiting ≡ waits.Reading (asks.Get key)) × (task.begun ≡ true) × MayAsk C (λ T. footprint C T task.request) task.reads (asks.Get key)
+IsPending C task (asks.Range lo hi limit) = (task.waiting ≡ waits.Reading (asks.Range lo hi limit)) × (task.begun ≡ true) × MayAsk C (λ T. footprint C T task.request) task.reads (asks.Range lo hi limit)
 IsPending C task (asks.Commit entry) =
     (task.waiting ≡ waits.Committing entry.reply) × (task.begun ≡ true) × (entry.request ≡ task.request) × (entry.reads ≡ task.reads) × IsSoundEntry C entry
+    × HasRead C (λ T. footprint C T entry.request) entry.reads
 IsPending C task ask = ⊥
 
 -- the request of the next operation, before its next answer

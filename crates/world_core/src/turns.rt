@@ -4,7 +4,7 @@ ghost use Rattle.std.specs.Prelude.{◌≡◌, ◌⊎◌, ◌≤◌, ◌<◌, �
 ghost use Rattle.client_core.specs.Client.{end_call, send, IsSending};
 ghost use Rattle.client_core.specs.declared.messages.ClientAsk.TheVariants as client_asks;
 ghost use Rattle.client_core.specs.declared.plan.Op.{Op};
-ghost use Rattle.meta_task.specs.Task.{new_task, Fits};
+ghost use Rattle.meta_task.specs.Task.{new_task, MayTake};
 ghost use Rattle.txn_task.specs.declared.messages.Answer.{Answer as AnswerView};
 ghost use Rattle.txn_task.specs.declared.messages.Entry.{Entry};
 ghost use Rattle.meta_task.specs.declared.waiting.Waiting.TheVariants as waits;
@@ -257,7 +257,7 @@ fn exchange(
 ) -> Result<Ask, Memory>
     requires begun { IsOpen store.old }
     requires may { MayAnswer store.old.config (entries_of store.old.journal) task.old.snapshot ask }
-    requires fits { (new : List Entry) (answer : AnswerView) → IsAnswer store.old.config (entries_of store.old.journal) new task.old.snapshot ask answer → Fits task.old.waiting answer }
+    requires fits { (new : List Entry) (answer : AnswerView) → IsAnswer store.old.config (entries_of store.old.journal) new task.old.snapshot ask answer → MayTake task.old.waiting answer }
     ensures exchanged { IfOk result (λ next. IsExchange store.old.config (entries_of store.old.journal) (entries_of store.new.journal) task.old ask task.new next) }
     ensures grows { (store.new ≡ store.old) ⊎ ((entry : Entry) × (ask ≡ asks.Commit entry) × (store.new ≡ with_entry store.old entry)) }
 {
