@@ -8,7 +8,7 @@ ghost use Rattle.client_core.specs.Plans.{IsOp, IsPlace};
 use client_core::{ClientAnswer, ClientAsk, ClientState, Op, Script};
 use fs_base::{ClientId, Code, Config, InodeId, Items, Memory, Place, Reply, Text};
 use key_schema::Key;
-use std::alloc::Global;
+use std::alloc::{AllocError, Global};
 use std::process::Abort;
 use std::test::Fail;
 use txn_task::Outcome;
@@ -109,17 +109,34 @@ fn turn(alloc: Global, client: &mut ClientState, ask: ClientAsk) -> Result<Clien
     }
 }
 
-/// The client's asks, a line each: how many operations have ended, whether all have, and the ask.
+/// How many operations have ended, whether all have, and the ask.
+fn line_of(alloc: Global, client: &ClientState, ask: &ClientAsk) -> Result<String, AllocError> {
+    let ended = client.has_ended();
+    format!(in alloc; "{} {ended} {ask:?}", client.ended_ops())
+}
+
+/// The client's ask has to be the line, and is answered.
+fn told(
+    rt: &(impl Abort + AllocGlobal),
+    client: &mut ClientState,
+    ask: ClientAsk,
+    line: &str,
+) -> Result<ClientAsk, Memory>
+    requires { Awaits client.old.sent ask }
+    ensures { IfOk result (λ ask. Awaits client.new.sent ask) }
+{
+    let got = line_of(rt.alloc(), client, &ask)?;
+    assert_eq!(rt; got.as_str(), line);
+    turn(rt.alloc(), client, ask)
+}
+
+/// The client's asks, a line each.
 fn tells(rt: &(impl Abort + AllocGlobal), mut client: ClientState, want: &str) -> Result<(), Fail>
     requires { client.sent ≡ false }
 {
-    let alloc = rt.alloc();
     let mut ask = next(&mut client, ClientAnswer::Start)?;
     for line in want.split('\n') {
-        let ended = client.has_ended();
-        let got = format!(in alloc; "{} {ended} {ask:?}", client.ended_ops())?;
-        assert_eq!(rt; got.as_str(), line);
-        ask = turn(alloc, &mut client, ask)?;
+        ask = told(rt, &mut client, ask, line)?;
     }
     Ok(())
 }
