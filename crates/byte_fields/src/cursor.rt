@@ -53,6 +53,17 @@ impl<'a> Cursor<'a> {
         Ok(bytes)
     }
 
+    /// The next bytes, so many.
+    fn array<const N: usize>(&mut self) -> Result<[u8; N], FieldError>
+        ensures { Gives left_of (λ bytes. (bytes, self.new)) result ((front N).reads self.old) }
+    {
+        let bytes = self.take(N)?;
+        match <[u8; N]>::try_from(bytes) {
+            Ok(bytes) => Ok(bytes),
+            Err(_) => unreachable!(),
+        }
+    }
+
     /// A number of one byte.
     #[tactic(auto, unfolding(crate::specs::Fields::number_1))]
     pub fn u8(&mut self) -> Result<u8, FieldError>
@@ -67,8 +78,8 @@ impl<'a> Cursor<'a> {
     pub fn u16(&mut self) -> Result<u16, FieldError>
         ensures { Gives left_of (λ n. (n, self.new)) result (number_2.reads self.old) }
     {
-        let bytes = self.take(2)?;
-        Ok(u16::from_le_bytes([bytes[0], bytes[1]]))
+        let bytes = self.array::<2>()?;
+        Ok(u16::from_le_bytes(bytes))
     }
 
     /// A number of four bytes, the lowest first.
@@ -76,8 +87,8 @@ impl<'a> Cursor<'a> {
     pub fn u32(&mut self) -> Result<u32, FieldError>
         ensures { Gives left_of (λ n. (n, self.new)) result (number_4.reads self.old) }
     {
-        let b = self.take(4)?;
-        Ok(u32::from_le_bytes([b[0], b[1], b[2], b[3]]))
+        let bytes = self.array::<4>()?;
+        Ok(u32::from_le_bytes(bytes))
     }
 
     /// A number of eight bytes, the lowest first.
@@ -85,8 +96,8 @@ impl<'a> Cursor<'a> {
     pub fn u64(&mut self) -> Result<u64, FieldError>
         ensures { Gives left_of (λ n. (n, self.new)) result (number_8.reads self.old) }
     {
-        let b = self.take(8)?;
-        Ok(u64::from_le_bytes([b[0], b[1], b[2], b[3], b[4], b[5], b[6], b[7]]))
+        let bytes = self.array::<8>()?;
+        Ok(u64::from_le_bytes(bytes))
     }
 
     /// The version byte, which is 1.
@@ -235,11 +246,8 @@ impl<'a> Cursor<'a> {
     pub fn client(&mut self) -> Result<ClientId, FieldError>
         ensures { Gives left_of (λ c. (c, self.new)) result (client.reads self.old) }
     {
-        let b = self.take(16)?;
-        Ok(ClientId(u128::from_be_bytes([
-            b[0], b[1], b[2], b[3], b[4], b[5], b[6], b[7], b[8], b[9], b[10], b[11], b[12], b[13],
-            b[14], b[15],
-        ])))
+        let bytes = self.array::<16>()?;
+        Ok(ClientId(u128::from_be_bytes(bytes)))
     }
 
     /// The bytes of a text, which is one field.

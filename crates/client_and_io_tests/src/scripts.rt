@@ -8,7 +8,7 @@ ghost use Rattle.client_core.specs.Plans.{IsOp, IsPlace};
 use client_core::{ClientAnswer, ClientAsk, ClientState, Op, Script};
 use fs_base::{ClientId, Code, Config, InodeId, Items, Memory, Place, Reply, Text};
 use key_schema::Key;
-use std::alloc::Global;
+use std::alloc::{AllocError, Global};
 use std::process::Abort;
 use std::test::Fail;
 use txn_task::Outcome;
@@ -92,8 +92,8 @@ fn next(client: &mut ClientState, answer: ClientAnswer) -> Result<ClientAsk, Mem
 }
 
 /// The next ask. Server 1 does each request.
-fn turn(alloc: Global, client: &mut ClientState, ask: ClientAsk) -> Result<ClientAsk, Memory>
-    requires { Awaits client.old.sent ask }
+fn turn(alloc: Global, client: &mut ClientState, ask: &ClientAsk) -> Result<ClientAsk, Memory>
+    requires { Awaits client.old.sent ask.now }
     ensures { IfOk result (λ ask. Awaits client.new.sent ask) }
 {
     match ask {
@@ -109,17 +109,38 @@ fn turn(alloc: Global, client: &mut ClientState, ask: ClientAsk) -> Result<Clien
     }
 }
 
-/// The client's asks, a line each: how many operations have ended, whether all have, and the ask.
-fn tells(rt: &(impl Abort + AllocGlobal), mut client: ClientState, want: &str) -> Result<(), Fail>
-    requires { client.sent ≡ false }
+/// How many operations have ended, whether all have, and the ask.
+fn line_of(alloc: Global, client: &ClientState, ask: &ClientAsk) -> Result<String, AllocError> {
+    let ended = client.has_ended();
+    format!(in alloc; "{} {ended} {ask:?}", client.ended_ops())
+}
+
+/// The client's ask has to be the line, and is answered.
+fn told(
+    rt: &(impl Abort + AllocGlobal),
+    client: &mut ClientState,
+    ask: &ClientAsk,
+    line: &str,
+) -> Result<ClientAsk, Memory>
+    requires { Awaits client.old.sent ask.now }
+    ensures { IfOk result (λ ask. Awaits client.new.sent ask) }
 {
-    let alloc = rt.alloc();
-    let mut ask = next(&mut client, ClientAnswer::Start)?;
+    let got = line_of(rt.alloc(), client, ask)?;
+    assert_eq!(rt; got.as_str(), line);
+    turn(rt.alloc(), client, ask)
+}
+
+/// The client's asks, a line each.
+fn tells(
+    rt: &(impl Abort + AllocGlobal),
+    client: &mut ClientState,
+    want: &str,
+) -> Result<(), Memory>
+    requires { client.old.sent ≡ false }
+{
+    let mut ask = next(client, ClientAnswer::Start)?;
     for line in want.split('\n') {
-        let ended = client.has_ended();
-        let got = format!(in alloc; "{} {ended} {ask:?}", client.ended_ops())?;
-        assert_eq!(rt; got.as_str(), line);
-        ask = turn(alloc, &mut client, ask)?;
+        ask = told(rt, client, &ask, line)?;
     }
     Ok(())
 }
@@ -127,17 +148,17 @@ fn tells(rt: &(impl Abort + AllocGlobal), mut client: ClientState, want: &str) -
 #[test]
 fn each_operation_is_a_request_and_ends_with_a_receipt(rt: HostRuntime) -> Result<(), Fail> {
     let alloc = rt.alloc();
-    let client = client(alloc, two(alloc)?)?;
+    let mut client = client(alloc, two(alloc)?)?;
     assert!(rt; !client.has_ended());
     let at = "Place { base: InodeId { value: 0 }, text: Items { items: [47, 97] } }";
     let want = TOLD.replace(alloc, "AT", at)?;
-    tells(&rt, client, want.as_str())
+    Ok(tells(&rt, &mut client, want.as_str())?)
 }
 
 #[test]
 fn a_script_without_operations_has_ended(rt: HostRuntime) -> Result<(), Fail> {
     let alloc = rt.alloc();
-    let client = client(alloc, Items::new(alloc))?;
+    let mut client = client(alloc, Items::new(alloc))?;
     assert!(rt; client.has_ended());
-    tells(&rt, client, "0 true Ended\n0 true Ended")
+    Ok(tells(&rt, &mut client, "0 true Ended\n0 true Ended")?)
 }

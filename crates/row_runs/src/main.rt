@@ -1,4 +1,4 @@
-//! Bytes and rows: reads a list of cases, and writes what each reads as.
+//! Bytes, rows and the plain tree: reads a list of cases, and writes what comes of each.
 //!
 //! A line is one of these, or a remark behind `#`:
 //! - `key`, `inode`, `dent`, `session`, `kept`, `alloc`, `gc`, `call` or `reply`, and bytes in hexadecimal: what they
@@ -9,46 +9,71 @@
 //! - `tree EDIT..`: whether these rows, so changed, are those of a tree.
 //! - `list KEY=VALUE..`: the same of rows in the given order.
 //! - `opening`: the rows of a new store, and what stands at the path `/` of their tree.
+//! - `plain` and the five numbers of a configuration: a new plain tree.
+//! - `apply CLIENT NUMBER STAMP CALL`: the call in words, and what the plain tree answers; the tree goes on from there.
 #![tactic(auto)]
 
+mod plain;
 mod spelled;
 mod trees;
 
-use anyhow::{Context, Result};
+use anyhow::Result;
+use fs_base::Config;
 use std::alloc::Global;
 use std::io;
-use test_support::split;
-use trees::Bench;
+use test_support::{Bench, split, tell_all};
+use tree_model::Tree;
+use trees::Forest;
 
-fn tell(alloc: Global, bench: &mut Bench, line: &str) -> Result<String> {
-    let (kind, rest) = line.split_once(' ').unwrap_or((line, ""));
+/// What the lines before have set.
+#[derive(Drop)]
+struct Cases {
+    forest: Forest,
+    tree: Tree,
+}
+
+fn set_tree(tree: &mut Tree, new: Tree) {
+    *tree = new;
+}
+
+fn told(alloc: Global, cases: &mut Cases, kind: &str, rest: &str) -> Result<String> {
     match kind {
         "config" | "base" | "tree" | "list" | "opening" => {
             let words = split(alloc, rest)?;
-            trees::told(alloc, bench, kind, words.as_slice())
+            trees::told(alloc, &mut cases.forest, kind, words.as_slice())
+        }
+        "plain" => {
+            let words = split(alloc, rest)?;
+            let tree = plain::planted(alloc, words.as_slice())?;
+            set_tree(&mut cases.tree, tree);
+            Ok(String::new(alloc))
+        }
+        "apply" => {
+            let words = split(alloc, rest)?;
+            plain::told(alloc, &mut cases.tree, words.as_slice())
         }
         "range" => spelled::ranges(alloc, rest),
         _ => spelled::told(alloc, kind, rest),
     }
 }
 
-fn tell_all(alloc: Global, lines: &str, out: &mut String) -> Result<()> {
-    let mut bench = Bench::new(alloc);
-    for line in lines.lines() {
-        if line.starts_with('#') {
-            writeln!(out, "{line}")?;
-        } else {
-            let told = tell(alloc, &mut bench, line).context(format_args!("at {line}"))?;
-            writeln!(out, "{line}{told}")?;
-        }
+impl Bench for Cases {
+    fn tell(&mut self, alloc: Global, line: &str, out: &mut String) -> Result<()> {
+        let (kind, rest) = line.split_once(' ').unwrap_or((line, ""));
+        let told = told(alloc, self, kind, rest)?;
+        writeln!(out, "{line}{told}")?;
+        Ok(())
     }
-    Ok(())
 }
 
 fn main(rt: HostRuntime) -> Result<()> {
     let lines = io::read_to_string(rt.alloc(), rt.reader())?;
+    let mut cases = Cases {
+        forest: Forest::new(rt.alloc()),
+        tree: Tree::new(rt.alloc(), Config::single())?,
+    };
     let mut out = String::new(rt.alloc());
-    let told = tell_all(rt.alloc(), lines.as_str(), &mut out);
+    let told = tell_all(rt.alloc(), &mut cases, lines.as_str(), &mut out);
     rt.print(out.as_str())?;
     told
 }

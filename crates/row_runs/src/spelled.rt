@@ -1,6 +1,6 @@
 use anyhow::{Context, Result, bail};
 use byte_fields::RowError;
-use fs_base::{InodeId, Memory};
+use fs_base::{Call, InodeId, Memory, Reply};
 use inode_record::InodeRow;
 use key_schema::{Key, KeyError, dir_range, session_range};
 use row_records::{
@@ -9,6 +9,99 @@ use row_records::{
 use std::alloc::Global;
 use std::fmt::Debug;
 use test_support::bytes_of;
+
+/// What bytes are read as, and written again.
+trait Spelled: Debug + Drop {
+    fn read(alloc: Global, bytes: &[u8]) -> Result<Self, RowError>;
+
+    fn write(&self, alloc: Global) -> Result<Vec<u8>, Memory>;
+}
+
+/// Written of a copy.
+impl Spelled for InodeRow {
+    fn read(alloc: Global, bytes: &[u8]) -> Result<InodeRow, RowError> {
+        InodeRow::read(alloc, bytes)
+    }
+
+    fn write(&self, alloc: Global) -> Result<Vec<u8>, Memory> {
+        let copy = self.try_clone(alloc)?;
+        copy.write(alloc)
+    }
+}
+
+impl Spelled for DentRow {
+    fn read(alloc: Global, bytes: &[u8]) -> Result<DentRow, RowError> {
+        DentRow::read(alloc, bytes)
+    }
+
+    fn write(&self, alloc: Global) -> Result<Vec<u8>, Memory> {
+        DentRow::write(self, alloc)
+    }
+}
+
+impl Spelled for SessionRow {
+    fn read(alloc: Global, bytes: &[u8]) -> Result<SessionRow, RowError> {
+        SessionRow::read(alloc, bytes)
+    }
+
+    fn write(&self, alloc: Global) -> Result<Vec<u8>, Memory> {
+        SessionRow::write(self, alloc)
+    }
+}
+
+impl Spelled for KeptRow {
+    fn read(alloc: Global, bytes: &[u8]) -> Result<KeptRow, RowError> {
+        KeptRow::read(alloc, bytes)
+    }
+
+    fn write(&self, alloc: Global) -> Result<Vec<u8>, Memory> {
+        KeptRow::write(self, alloc)
+    }
+}
+
+impl Spelled for AllocRow {
+    fn read(alloc: Global, bytes: &[u8]) -> Result<AllocRow, RowError> {
+        AllocRow::read(alloc, bytes)
+    }
+
+    fn write(&self, alloc: Global) -> Result<Vec<u8>, Memory> {
+        AllocRow::write(self, alloc)
+    }
+}
+
+impl Spelled for GcRow {
+    fn read(alloc: Global, bytes: &[u8]) -> Result<GcRow, RowError> {
+        GcRow::read(alloc, bytes)
+    }
+
+    fn write(&self, alloc: Global) -> Result<Vec<u8>, Memory> {
+        GcRow::write(self, alloc)
+    }
+}
+
+/// A stamp and a call, written of a copy.
+impl Spelled for (u64, Call) {
+    fn read(alloc: Global, bytes: &[u8]) -> Result<(u64, Call), RowError> {
+        call_read(alloc, bytes)
+    }
+
+    fn write(&self, alloc: Global) -> Result<Vec<u8>, Memory> {
+        let copy = self.1.try_clone(alloc)?;
+        call_write(alloc, self.0, &copy)
+    }
+}
+
+/// Written of a copy.
+impl Spelled for Reply {
+    fn read(alloc: Global, bytes: &[u8]) -> Result<Reply, RowError> {
+        reply_read(alloc, bytes)
+    }
+
+    fn write(&self, alloc: Global) -> Result<Vec<u8>, Memory> {
+        let copy = self.try_clone(alloc)?;
+        reply_write(alloc, &copy)
+    }
+}
 
 /// A value that bytes were read as; the bytes that are written of it, where they are others.
 fn value<T: Debug>(alloc: Global, bytes: &[u8], value: &T, written: &[u8]) -> Result<String> {
@@ -19,10 +112,15 @@ fn value<T: Debug>(alloc: Global, bytes: &[u8], value: &T, written: &[u8]) -> Re
     Ok(format!(in alloc; " = {value:?}, written as {written}")?)
 }
 
-fn refusal(alloc: Global, error: RowError) -> Result<String> {
-    match error {
-        RowError::NotARecord(place) => Ok(format!(in alloc; " is none at byte {place}")?),
-        RowError::Memory => bail!(Memory),
+/// What bytes read as.
+fn row<T: Spelled>(alloc: Global, bytes: &[u8]) -> Result<String> {
+    match T::read(alloc, bytes) {
+        Ok(row) => {
+            let written = row.write(alloc)?;
+            value(alloc, bytes, &row, written.as_slice())
+        }
+        Err(RowError::NotARecord(place)) => Ok(format!(in alloc; " is none at byte {place}")?),
+        Err(RowError::Memory) => bail!(Memory),
     }
 }
 
@@ -37,106 +135,20 @@ fn key(alloc: Global, bytes: &[u8]) -> Result<String> {
     }
 }
 
-/// Of a copy.
-fn inode(alloc: Global, bytes: &[u8]) -> Result<String> {
-    match InodeRow::read(alloc, bytes) {
-        Ok(row) => {
-            let copy = row.try_clone(alloc)?;
-            let written = copy.write(alloc)?;
-            value(alloc, bytes, &copy, written.as_slice())
-        }
-        Err(e) => refusal(alloc, e),
-    }
-}
-
-fn dent(alloc: Global, bytes: &[u8]) -> Result<String> {
-    match DentRow::read(alloc, bytes) {
-        Ok(row) => {
-            let written = row.write(alloc)?;
-            value(alloc, bytes, &row, written.as_slice())
-        }
-        Err(e) => refusal(alloc, e),
-    }
-}
-
-fn session(alloc: Global, bytes: &[u8]) -> Result<String> {
-    match SessionRow::read(alloc, bytes) {
-        Ok(row) => {
-            let written = row.write(alloc)?;
-            value(alloc, bytes, &row, written.as_slice())
-        }
-        Err(e) => refusal(alloc, e),
-    }
-}
-
-fn kept(alloc: Global, bytes: &[u8]) -> Result<String> {
-    match KeptRow::read(alloc, bytes) {
-        Ok(row) => {
-            let written = row.write(alloc)?;
-            value(alloc, bytes, &row, written.as_slice())
-        }
-        Err(e) => refusal(alloc, e),
-    }
-}
-
-fn next_number(alloc: Global, bytes: &[u8]) -> Result<String> {
-    match AllocRow::read(alloc, bytes) {
-        Ok(row) => {
-            let written = row.write(alloc)?;
-            value(alloc, bytes, &row, written.as_slice())
-        }
-        Err(e) => refusal(alloc, e),
-    }
-}
-
-fn deletion(alloc: Global, bytes: &[u8]) -> Result<String> {
-    match GcRow::read(alloc, bytes) {
-        Ok(row) => {
-            let written = row.write(alloc)?;
-            value(alloc, bytes, &row, written.as_slice())
-        }
-        Err(e) => refusal(alloc, e),
-    }
-}
-
-/// Of a copy, with its stamp.
-fn call(alloc: Global, bytes: &[u8]) -> Result<String> {
-    match call_read(alloc, bytes) {
-        Ok((stamp, call)) => {
-            let copy = call.try_clone(alloc)?;
-            let written = call_write(alloc, stamp, &copy)?;
-            value(alloc, bytes, &(stamp, copy), written.as_slice())
-        }
-        Err(e) => refusal(alloc, e),
-    }
-}
-
-/// Of a copy.
-fn reply(alloc: Global, bytes: &[u8]) -> Result<String> {
-    match reply_read(alloc, bytes) {
-        Ok(reply) => {
-            let copy = reply.try_clone(alloc)?;
-            let written = reply_write(alloc, &copy)?;
-            value(alloc, bytes, &copy, written.as_slice())
-        }
-        Err(e) => refusal(alloc, e),
-    }
-}
-
 /// What bytes of a kind read as.
 pub fn told(alloc: Global, kind: &str, word: &str) -> Result<String> {
     let bytes = bytes_of(alloc, word)?;
     let bytes = bytes.as_slice();
     match kind {
         "key" => key(alloc, bytes),
-        "inode" => inode(alloc, bytes),
-        "dent" => dent(alloc, bytes),
-        "session" => session(alloc, bytes),
-        "kept" => kept(alloc, bytes),
-        "alloc" => next_number(alloc, bytes),
-        "gc" => deletion(alloc, bytes),
-        "call" => call(alloc, bytes),
-        "reply" => reply(alloc, bytes),
+        "inode" => row::<InodeRow>(alloc, bytes),
+        "dent" => row::<DentRow>(alloc, bytes),
+        "session" => row::<SessionRow>(alloc, bytes),
+        "kept" => row::<KeptRow>(alloc, bytes),
+        "alloc" => row::<AllocRow>(alloc, bytes),
+        "gc" => row::<GcRow>(alloc, bytes),
+        "call" => row::<(u64, Call)>(alloc, bytes),
+        "reply" => row::<Reply>(alloc, bytes),
         _ => bail!("no such kind of bytes"),
     }
 }

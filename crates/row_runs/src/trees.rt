@@ -6,17 +6,17 @@ use std::collections::BTreeMap;
 use test_support::{Rows, config_of, edit, listed, row_of};
 use tree_model::{WalkEnd, Walked};
 
-/// What the lines before have set.
+/// What the lines before have set of rows.
 #[derive(Drop)]
-pub struct Bench {
+pub struct Forest {
     config: Config,
     /// The rows that each case begins with.
     base: Rows,
 }
 
-impl Bench {
-    pub fn new(alloc: Global) -> Bench {
-        Bench {
+impl Forest {
+    pub fn new(alloc: Global) -> Forest {
+        Forest {
             config: Config::single(),
             base: BTreeMap::new(alloc),
         }
@@ -79,25 +79,25 @@ fn opening(alloc: Global, config: &Config) -> Result<String> {
 }
 
 /// What a line about rows comes to.
-pub fn told(alloc: Global, bench: &mut Bench, kind: &str, words: &[&str]) -> Result<String> {
+pub fn told(alloc: Global, forest: &mut Forest, kind: &str, words: &[&str]) -> Result<String> {
     match kind {
         "config" => {
-            bench.config = config_of(words)?;
+            forest.config = config_of(words)?;
             Ok(String::new(alloc))
         }
         "base" => {
-            edit(alloc, &mut bench.base, words)?;
+            edit(alloc, &mut forest.base, words)?;
             Ok(String::new(alloc))
         }
         "tree" => {
-            let rows = edited(alloc, &bench.base, words)?;
-            verdict(alloc, &bench.config, rows.as_slice())
+            let rows = edited(alloc, &forest.base, words)?;
+            verdict(alloc, &forest.config, rows.as_slice())
         }
         "list" => {
             let rows = given(alloc, words)?;
-            verdict(alloc, &bench.config, rows.as_slice())
+            verdict(alloc, &forest.config, rows.as_slice())
         }
-        "opening" => opening(alloc, &bench.config),
+        "opening" => opening(alloc, &forest.config),
         _ => bail!("no such line about rows"),
     }
 }

@@ -117,17 +117,48 @@ fn doomed(alloc: Global, rows: ByNumber<GcRow>) -> Result<ByNumber<Doom>, Memory
     Ok(doomed)
 }
 
+/// The inodes, and the entries of directories.
+fn placed(
+    alloc: Global,
+    inodes: ByNumber<InodeRow>,
+    dents: ByName<DentRow>,
+) -> Result<(ByNumber<Node>, ByName<InodeId>), Memory>
+    ensures nodes { IfOk result (λ placed. placed.0 ≡ map_values node_of inodes) }
+    ensures entries { IfOk result (λ placed. placed.1 ≡ map_values (λ (e : DentRow). e.inode) dents) }
+{
+    let nodes = nodes(alloc, inodes)?;
+    let entries = entries(alloc, dents)?;
+    Ok((nodes, entries))
+}
+
+/// What is kept of clients: their write sessions and last replies.
+fn of_clients(
+    alloc: Global,
+    sessions: BySession<u64>,
+    kept: ByClient<KeptRow>,
+) -> Result<(BySession<()>, ByClient<KeptReply>), Memory>
+    ensures writers { IfOk result (λ of. of.0 ≡ map_values (λ (stamp : ℕ). tt {0}) sessions) }
+    ensures kept { IfOk result (λ of. of.1 ≡ map_values kept_of kept) }
+{
+    let writers = writers(alloc, sessions)?;
+    let kept = self::kept(alloc, kept)?;
+    Ok((writers, kept))
+}
+
 impl TypedRows {
     /// The tree that the rows are, whether or not they are well formed.
     pub(crate) fn into_tree(self, alloc: Global, config: Config) -> Result<Tree, Memory>
         ensures { IfOk result (λ t. t ≡ record { config = config; tree = tree_of self }) }
     {
+        let (nodes, entries) = placed(alloc, self.inodes, self.dents)?;
+        let (writers, kept) = of_clients(alloc, self.sessions, self.kept)?;
+        let doomed = doomed(alloc, self.doomed)?;
         let parts = TreeParts {
-            nodes: nodes(alloc, self.inodes)?,
-            entries: entries(alloc, self.dents)?,
-            writers: writers(alloc, self.sessions)?,
-            kept: kept(alloc, self.kept)?,
-            doomed: doomed(alloc, self.doomed)?,
+            nodes,
+            entries,
+            writers,
+            kept,
+            doomed,
             next: self.next,
         };
         Ok(Tree::from_parts(config, parts))
