@@ -9,4 +9,4 @@ mod runs;
 
 pub use history::{Done, EndDone, WriteDone};
 pub use node::{NodeError, NodeState};
-pub use runs::Run;
+pub use runs::{Run, runs_are_least};

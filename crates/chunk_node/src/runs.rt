@@ -1,5 +1,5 @@
 ghost use Rattle.std.specs.Prelude.{◌≡◌, ◌≤◌, ◌<◌, ◌+◌, ◌++◌, nat_le, get_or, length, take, drop, IfOk, OnOk, OnErr};
-ghost use Rattle.chunk_node.specs.Reading.{InRow, run_bytes};
+ghost use Rattle.chunk_node.specs.Reading.{InRow, RunsAreLeast, run_bytes};
 ghost use Rattle.chunk_node.specs.Joining.{ended_runs, IsJoined, IsFront, IsRest};
 
 use fs_base::Memory;
@@ -11,6 +11,11 @@ pub struct Run {
     pub len: u32,
     pub fill: u8,
 }
+
+/// Runs, where no two neighbours are of one value, are the least list with their bytes. It does nothing.
+pub fn runs_are_least()
+    ensures { RunsAreLeast }
+{}
 
 /// Adds a run, unless it is empty.
 pub fn end_run(runs: &mut Vec<Run>, run: Run) -> Result<(), Memory>
