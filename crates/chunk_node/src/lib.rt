@@ -5,7 +5,8 @@ mod bytes;
 mod chunks;
 mod history;
 mod node;
+mod runs;
 
-pub use bytes::Run;
 pub use history::{Done, EndDone, WriteDone};
 pub use node::{NodeError, NodeState};
+pub use runs::{Run, runs_are_least};

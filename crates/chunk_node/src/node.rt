@@ -1,12 +1,13 @@
 ghost use Rattle.std.specs.Prelude.{◌≡◌, ◌≤◌, ◌+◌, [], ◌∷◌, ◌++◌, length, false, true, None, IfOk, IfErr, IfSome, IfNone, OnOk, OnErr};
+ghost use Rattle.std.specs.Option.{option_map};
 ghost use Rattle.chunk_node.specs.Chunks.{chunk_after};
 ghost use Rattle.chunk_node.specs.Ends.{IsLastChunk};
 ghost use Rattle.chunk_node.specs.Limits.{removal_of, after_removal, is_full, is_full_for, HasCause};
-ghost use Rattle.chunk_node.specs.Reading.{AreRuns, bytes_read};
+ghost use Rattle.chunk_node.specs.Reading.{AreKept, AreRuns, bytes_read};
 
-use crate::bytes::Run;
 use crate::chunks::Chunks;
 use crate::history::{Done, EndDone, WriteDone};
+use crate::runs::Run;
 use fs_base::{InodeId, Memory};
 use std::alloc::{AllocError, Global};
 use std::collections::BTreeMap;
@@ -110,6 +111,16 @@ impl NodeState {
         Ok((self.history.len() as u64, runs))
     }
 
+    /// The runs of all bytes of a chunk, if it is there, as the node keeps them: it takes memory by these.
+    ///
+    /// It doesn't look whether the inode was removed.
+    pub fn kept(&self, inode: InodeId, index: u64) -> Option<&[Run]>
+        ensures { AreKept (chunk_after self.now inode index) (option_map (λ runs. runs.now) result) }
+    {
+        let bytes = self.chunks.get(inode.get(), index)?;
+        Some(bytes.runs())
+    }
+
     /// The front, and the last chunk of an inode with its length in bytes.
     pub fn query_end(&self, inode: InodeId) -> (u64, Option<(u64, u32)>)
         ensures front { result.0 ≡ length self.now }
@@ -158,11 +169,9 @@ impl NodeState {
             return Err(why);
         }
         let alloc = *self.history.allocator();
-        let bytes = self
-            .chunks
-            .overwritten(alloc, w.inode.get(), w.index, w.offset, w.len, w.fill)?;
         self.history.reserve(1)?;
-        self.chunks.put(w.inode.get(), w.index, bytes)?;
+        self.chunks
+            .overwrite(alloc, w.inode.get(), w.index, w.offset, w.len, w.fill)?;
         self.written += u64::from(w.len);
         self.counted += 1;
         if self.history.push(Done::Write(w)).is_err() {
