@@ -45,6 +45,9 @@ pub IsAscending-after_all : {E : Type 0} (writes_of : E → WriteSet) (rows : Li
 IsAscending-after_all writes_of rows [] h = h
 IsAscending-after_all writes_of rows (e ∷ es) h = IsAscending-after_all writes_of (with_writes rows (writes_of e).writes) es (IsAscending-with_writes rows (writes_of e).writes h)
 
+pub IsAscending-rows_at : {E : Type 0} (writes_of : E → WriteSet) (rows : List Row) (es : List E) (n : ℕ) → IsAscending rows → IsAscending (rows_at writes_of rows es n)
+IsAscending-rows_at writes_of rows es n h = IsAscending-after_all writes_of rows (take n es) h
+
 -- the rows one entry further
 pub rows_at_more : {E : Type 0} (writes_of : E → WriteSet) (rows : List Row) (es : List E) (i : ℕ) (e : E) → i < length es → get_or es i e ≡ e → rows_at writes_of rows es (i + 1) ≡ with_writes (rows_at writes_of rows es i) (writes_of e).writes
 rows_at_more writes_of rows es i e l at =

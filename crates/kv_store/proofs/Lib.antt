@@ -1,4 +1,11 @@
 pub mod JournalLemmas
-pub mod PlaceLemmas
 pub mod RunLemmas
 pub mod LaterLemmas
+pub mod ChainLemmas
+pub mod MapLemmas
+pub mod WriteLemmas
+pub mod VersionLemmas
+pub mod RangeLemmas
+pub mod OpeningLemmas
+pub mod HoldLemmas
+pub mod SkipLemmas

@@ -1,6 +1,7 @@
 pub mod Journal
 pub mod Store
 pub mod Causes
-pub mod Place
 pub mod Commits
 pub mod Later
+pub mod Chains
+pub mod Versions

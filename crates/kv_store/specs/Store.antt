@@ -1,11 +1,13 @@
 -- What contracts see of a store.
-use Rattle.std.specs.Prelude.{◌≤◌, List, length}
+use Rattle.std.specs.Prelude.{◌≤◌, ℕ, List, length}
 use Rattle.conflict_sets.specs.Rows.{IsAscending}
 use Rattle.fs_base.specs.Config.{Settings}
 use Rattle.fs_base.specs.declared.row.Row.{Row}
 use Rattle.conflict_sets.specs.declared.sets.ReadSet.{ReadSet}
 use Rattle.conflict_sets.specs.declared.sets.WriteSet.{WriteSet}
+use Rattle.kv_store.specs.declared.chain.Version.{Version}
 use Rattle.kv_store.specs.Journal.{IsRun}
+use Rattle.kv_store.specs.Versions.{KeepsChains}
 
 pub record Store (E : Type 0) : Type 0 where
   pub config : Settings
@@ -18,3 +20,8 @@ pub record IsKept {E : Type 0} (reads_of : E → ReadSet) (writes_of : E → Wri
   pub opening_good : good store.config store.opening
   pub run : IsRun reads_of writes_of (sound store.config) store.opening store.journal
   pub few : length store.journal ≤ 200000
+
+-- and each key has its chain
+pub record IsIndexed {E : Type 0} (reads_of : E → ReadSet) (writes_of : E → WriteSet) (good : Settings → List Row → Type 0) (sound : Settings → E → Type 0) (store : Store E) (chains : List (List ℕ × List Version)) : Type 0 where
+  pub kept : IsKept reads_of writes_of good sound store
+  pub chains_are : KeepsChains writes_of store.opening store.journal chains

@@ -3,31 +3,36 @@ ghost use Rattle.conflict_sets.specs.Rows.{IsAscending, value_at_key, rows_betwe
 ghost use Rattle.conflict_sets.specs.Reads.{Agrees};
 ghost use Rattle.kv_store.specs.Journal.{rows_at, last_writer, first_later, IsRun};
 
-use crate::read::{copied, later_in, latest};
-use crate::rows::{between, rows_after};
-use conflict_sets::{EntryLaw, Got, ReadSet};
+use crate::chains::{Chains, add_all, opening_chains, seen};
+use crate::later::{first_after, later_in};
+use crate::read::got;
+use crate::rows::between;
+use conflict_sets::{EntryLaw, Got, ReadSet, compare};
 use fs_base::{Config, Items, Memory, Row, Text};
 use std::alloc::Global;
 use std::marker::Model;
 
 /// The opening rows and a journal of entries. The version of an entry is its place, from 1; version 0 is the opening.
 ///
+/// It keeps the versions of each key with their values, so that a read is a search in one chain, and a commit looks
+/// at the chains of what it read.
 /// It keeps at most 200,000 entries. The configuration is remembered for contracts alone.
 #[derive(Drop)]
 pub struct KvState<E: EntryLaw> {
     config: Config,
     opening: Items<Row>,
     journal: Vec<E>,
+    chains: Chains,
 }
 
 impl<E: EntryLaw> Model for KvState<E> {
-    ghost use Rattle.kv_store.specs.Store.{Store, IsKept};
+    ghost use Rattle.kv_store.specs.Store.{Store, IsIndexed};
 
     ghost Value = { Store E };
 
     ghost view = { λ s. record { config = s.config; opening = s.opening; journal = s.journal.items } };
 
-    ghost invariant = { λ s. IsKept E.reads_of E.writes_of E.good E.sound (record { config = s.config; opening = s.opening; journal = s.journal.items }) };
+    ghost invariant = { λ s. IsIndexed E.reads_of E.writes_of E.good E.sound (record { config = s.config; opening = s.opening; journal = s.journal.items }) s.chains.entries };
 }
 
 /// Why a commit was refused.
@@ -50,16 +55,18 @@ pub struct Refused<E> {
 impl<E: EntryLaw> KvState<E> {
     ghost use Rattle.kv_store.specs.Causes.{HasCause};
 
-    /// A store with these rows and an empty journal. The rows are moved in, not copied.
+    /// A store with these rows and an empty journal.
     pub fn new(alloc: Global, config: &Config, rows: Items<Row>) -> Result<KvState<E>, Memory>
         requires ascending { IsAscending rows }
         requires good { E.good config.now rows }
         ensures { IfOk result (λ store. store ≡ record { config = config.now; opening = rows; journal = [] }) }
     {
+        let chains = opening_chains(alloc, rows.as_slice())?;
         Ok(KvState {
             config: *config,
             opening: rows,
             journal: Vec::new(alloc),
+            chains,
         })
     }
 
@@ -88,9 +95,8 @@ impl<E: EntryLaw> KvState<E> {
         ensures value { IfOk result (λ got. got.value ≡ value_at_key (rows_at E.writes_of self.now.opening self.now.journal version) key.now) }
         ensures version { IfOk result (λ got. got.version ≡ last_writer E.writes_of self.now.journal version key.now) }
     {
-        let (value, version) = latest(self.opening.as_slice(), self.entries_to(version), key);
-        let value = copied(value)?;
-        Ok(Got { value, version })
+        let key = Text::from_slice(*self.journal.allocator(), key)?;
+        got(seen(&self.chains, &key, version))
     }
 
     /// The first `limit` rows at a version from `lo` up to, and without, `hi`, in the order of keys.
@@ -105,19 +111,14 @@ impl<E: EntryLaw> KvState<E> {
         ensures { IfOk result (λ rows. rows ≡ rows_between (rows_at E.writes_of self.now.opening self.now.journal version) lo.now hi.now limit) }
     {
         let alloc = *self.journal.allocator();
-        let rows = rows_after(alloc, self.opening.as_slice(), self.entries_to(version))?;
-        between(alloc, rows.as_slice(), lo, hi, limit)
-    }
-
-    fn entries_to(&self, version: u64) -> &[E]
-        requires { version ≤ length self.now.journal }
-        ensures { result.now ≡ take version self.now.journal }
-    {
-        &self.journal.as_slice()[..version as usize]
+        if compare(lo, hi).is_gt() {
+            return Ok(Items::new(alloc));
+        }
+        between(alloc, &self.chains, version, lo, hi, limit)
     }
 
     /// Adds an entry whose reads agree with the rows at `snapshot`, unless an entry after that version wrote
-    /// something that it read. It takes its memory first.
+    /// something that it read. It takes its memory before it changes the store.
     ///
     /// This is the optimistic rule of FoundationDB's documentation: a transaction reads at one version, and
     /// conflicts where a later commit wrote what it read.
@@ -132,22 +133,21 @@ impl<E: EntryLaw> KvState<E> {
         ensures err { IfErr result (λ refused. (self.new ≡ self.old) × (refused.entry ≡ entry)) }
         ensures cause { IfErr result (λ refused. HasCause (first_later E.writes_of self.old.journal snapshot (E.reads_of entry)) (length self.old.journal) refused.why) }
     {
-        if self.journal.reserve(1).is_err() {
+        if let Some(why) = self.refusal(snapshot, entry.reads()) {
+            return Err(Refused { entry, why });
+        }
+        let alloc = *self.journal.allocator();
+        let front = self.front();
+        if self.journal.reserve(1).is_err()
+            || add_all(alloc, &mut self.chains, front, entry.writes()).is_err()
+        {
             return Err(Refused {
                 entry,
                 why: CommitError::Memory,
             });
         }
-        if let Some(why) = self.refusal(snapshot, entry.reads()) {
-            return Err(Refused { entry, why });
-        }
-        match self.journal.push(entry) {
-            Ok(()) => Ok(self.journal.len() as u64),
-            Err(refused) => Err(Refused {
-                entry: refused.value,
-                why: CommitError::Memory,
-            }),
-        }
+        self.journal.push_reserved(entry);
+        Ok(self.journal.len() as u64)
     }
 
     /// Why a commit with these reads at `snapshot` is refused, if it is.
@@ -157,11 +157,8 @@ impl<E: EntryLaw> KvState<E> {
         ensures room { IfNone result (length self.now.journal < 200000) }
         ensures cause { IfSome result (λ why. HasCause (first_later E.writes_of self.now.journal snapshot reads.now) (length self.now.journal) why) }
     {
-        let later = later_in(
-            &self.journal.as_slice()[snapshot as usize..],
-            snapshot,
-            reads,
-        );
+        let place = self.first_touched(snapshot, reads);
+        let later = later_in(&self.journal.as_slice()[place as usize..], place, reads);
         match later {
             Some((version, key)) => match key.try_clone() {
                 Ok(key) => Some(CommitError::Conflict(version, key)),
@@ -170,6 +167,17 @@ impl<E: EntryLaw> KvState<E> {
             None if self.journal.len() == 200_000 => Some(CommitError::Full),
             None => None,
         }
+    }
+
+    /// The place of the first entry from `snapshot` on that wrote something read, or the end.
+    fn first_touched(&self, snapshot: u64, reads: &ReadSet) -> u64
+        requires { snapshot ≤ length self.now.journal }
+        ensures skips { first_later E.writes_of self.now.journal snapshot reads.now ≡ first_later E.writes_of self.now.journal result reads.now }
+        ensures within { result ≤ length self.now.journal }
+        ensures few { length self.now.journal ≤ 200000 }
+    {
+        let next = self.journal.len() as u64 + 1;
+        first_after(&self.chains, reads, snapshot, next) - 1
     }
 
     /// The opening rows and the journal.
@@ -181,6 +189,7 @@ impl<E: EntryLaw> KvState<E> {
             config: _,
             opening,
             journal,
+            chains: _,
         } = self;
         (opening, Items::from_vec(journal))
     }

@@ -47,7 +47,8 @@ fn row(alloc: Global, key: &[u8]) -> Result<Row, Memory>
     })
 }
 
-fn opening(alloc: Global) -> Result<Items<Row>, Memory>
+/// A row `-` at the keys `a` and `b`.
+pub fn opening(alloc: Global) -> Result<Items<Row>, Memory>
     ensures ascending { IfOk result (λ rows. IsAscending rows) }
     ensures both { IfOk result (λ rows. HasBoth rows) }
 {

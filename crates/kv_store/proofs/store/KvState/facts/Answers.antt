@@ -7,4 +7,4 @@ returns-clause-good g c =
     rw (← c.self.view_is)
     (λ n. good_at g.E.EntryLaw.reads_of g.E.EntryLaw.writes_of (g.E.EntryLaw.good config) (g.E.EntryLaw.sound config)
     (λ e rows a s h r. g.met.E.EntryLaw.keeps_good config e rows a s h r)
-    c.self.inside.opening c.self.inside.journal.items n c.self.invariant.ascending c.self.invariant.opening_good c.self.invariant.run)
+    c.self.inside.opening c.self.inside.journal.items n c.self.invariant.kept.ascending c.self.invariant.kept.opening_good c.self.invariant.kept.run)

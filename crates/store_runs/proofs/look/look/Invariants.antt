@@ -1,0 +1,4 @@
+use Rattle.store_runs.proofs.look.look.Given as goal
+
+abbrev pub ghosts-look_in : goal.ghosts-look_in
+ghosts-look_in a = record { name = a.blank.name; parts = a.blank.parts }
