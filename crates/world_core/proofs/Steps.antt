@@ -90,7 +90,7 @@ module _ (C : Settings) (attempts : ℕ) (journal : List Entry) (k : ℕ) (scrip
     -- the attempts are spent
     spent : (entry : Entry) (version : ℕ) (key : Key) → IsPending C task (asks.Commit entry) → (v : IsUnderWay C attempts journal script op receipts front (learnt task (answers.Conflict version key))) (outcome : Outcome)
         → outcome.conflicts ≡ (learnt task (answers.Conflict version key)).conflicts → IsSpent (learnt task (answers.Conflict version key)) outcome → HasEnded C attempts journal k script op receipts front v.step outcome
-    spent entry version key (waiting, begun, request, reads, sound) v outcome conflicts h =
+    spent entry version key (waiting, begun, request, reads, sound, all) v outcome conflicts h =
         let b : IsBegun C journal task.request.client (last_version front task.conflicts) task = u.task_is.begun begun in
         let up : front ≤ task.snapshot = front_below C attempts journal k script op receipts front s past valid.small task u b in
         let within : task.snapshot ≤ length journal = b.within in
@@ -113,7 +113,7 @@ module _ (C : Settings) (attempts : ℕ) (journal : List Entry) (k : ℕ) (scrip
     -- the journal takes no more
     full : (entry : Entry) → IsPending C task (asks.Commit entry) → length journal ≡ 200000 → (v : IsUnderWay C attempts journal script op receipts front task) (outcome : Outcome) → outcome.conflicts ≡ task.conflicts → IsFull task outcome
         → HasEnded C attempts journal k script op receipts front v.step outcome
-    full entry (waiting, begun, request, reads, sound) limit v outcome conflicts h =
+    full entry (waiting, begun, request, reads, sound, all) limit v outcome conflicts h =
         let b : IsBegun C journal task.request.client (last_version front task.conflicts) task = u.task_is.begun begun in
         let up : front ≤ task.snapshot = front_below C attempts journal k script op receipts front s past valid.small task u b in
         let within : task.snapshot ≤ length journal = b.within in
@@ -131,7 +131,7 @@ module _ (C : Settings) (attempts : ℕ) (journal : List Entry) (k : ℕ) (scrip
     -- the journal has the entry at its end
     made : (entry : Entry) (version : ℕ) (outcome : Outcome) → IsSoundJournal C (journal ++ entry ∷ []) → IsPending C task (asks.Commit entry) → version ≡ length journal + 1 → outcome.conflicts ≡ task.conflicts → IsMadeReply task version outcome
         → HasEnded C attempts (journal ++ entry ∷ []) k script op receipts front u.step outcome
-    made entry version outcome grown (waiting, begun, request, reads, sound) is conflicts h =
+    made entry version outcome grown (waiting, begun, request, reads, sound, all) is conflicts h =
         let reply : entry.reply ≡ outcome.reply = same_reply entry.reply outcome.reply (sym waiting ∙ h.waiting) in
         ended_made C attempts (journal ++ entry ∷ []) k script op receipts front u.step task.request u.request u.from outcome
         (subst (λ (ps : List (ℕ × Key)). AreConflicts C (journal ++ entry ∷ []) task.request front ps) (sym conflicts) (AreConflicts-grown C journal entry task.request front task.conflicts u.task_is.conflicts))
