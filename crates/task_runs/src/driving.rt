@@ -73,16 +73,16 @@ fn turn(
     rows: &Rows,
     words: Option<&str>,
     task: &mut MetaTask,
-    ask: Ask,
+    ask: &Ask,
 ) -> Result<Option<Ask>>
-    requires { Awaits task.old.waiting ask }
+    requires { Awaits task.old.waiting ask.now }
     ensures { IfOk result (λ next. MatchOption next (Unit {0}) (λ ask. Awaits task.new.waiting ask)) }
 {
     match ask {
         Ask::Begin => Ok(Some(begin(task)?)),
-        Ask::Get(key) => Ok(Some(look(alloc, rows, task, &key)?)),
+        Ask::Get(key) => Ok(Some(look(alloc, rows, task, key)?)),
         Ask::Range { lo, hi, limit } => {
-            let ask = list(alloc, rows, task, &lo, &hi, limit)?;
+            let ask = list(alloc, rows, task, lo, hi, *limit)?;
             Ok(Some(ask))
         }
         Ask::Commit(_) => Ok(Some(commit(alloc, words, task)?)),
@@ -98,14 +98,14 @@ fn is_commit(ask: &Ask) -> bool {
 fn run(
     alloc: Global,
     rows: &Rows,
-    mut task: MetaTask,
+    task: &mut MetaTask,
     answers: &[&str],
     out: &mut String,
 ) -> Result<()>
-    requires { task.waiting ≡ waits.Fresh }
+    requires { task.old.waiting ≡ waits.Fresh }
 {
     let mut left = answers.iter();
-    let mut ask = next(&mut task, Answer::Start)?;
+    let mut ask = next(task, Answer::Start)?;
     for _turn in 0..1000u16 {
         tell_ask(alloc, &ask, out)?;
         let words = if is_commit(&ask) {
@@ -113,7 +113,7 @@ fn run(
         } else {
             None
         };
-        match turn(alloc, rows, words, &mut task, ask)? {
+        match turn(alloc, rows, words, task, &ask)? {
             Some(more) => ask = more,
             None => return tell_outcome(alloc, task.outcome(), left.len(), out),
         }
@@ -134,6 +134,6 @@ pub fn tell(
         bail!("no request");
     };
     let words = split(alloc, request)?;
-    let task = task_of(alloc, config, words.as_slice())?;
-    run(alloc, rows, task, answers, out)
+    let mut task = task_of(alloc, config, words.as_slice())?;
+    run(alloc, rows, &mut task, answers, out)
 }

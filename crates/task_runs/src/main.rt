@@ -14,16 +14,16 @@ mod driving;
 mod requests;
 mod telling;
 
-use anyhow::{Context, Result, bail};
+use anyhow::{Result, bail};
 use fs_base::{Config, Text};
 use std::alloc::Global;
 use std::collections::BTreeMap;
 use std::io;
-use test_support::{Rows, bytes_of, config_of, edit, split};
+use test_support::{Bench, Rows, bytes_of, config_of, edit, split, tell_all};
 
 /// What the lines before have set.
 #[derive(Drop)]
-struct Bench {
+struct Cases {
     config: Config,
     rows: Rows,
 }
@@ -44,47 +44,41 @@ fn put_entries(alloc: Global, rows: &mut Rows, words: &[&str]) -> Result<()> {
 }
 
 /// A line that changes what the next ones are about.
-fn set(alloc: Global, bench: &mut Bench, line: &str) -> Result<()> {
+fn set(alloc: Global, cases: &mut Cases, line: &str) -> Result<()> {
     let words = split(alloc, line)?;
     match words.as_slice() {
         ["config", numbers @ ..] => {
-            bench.config = config_of(numbers)?;
+            cases.config = config_of(numbers)?;
             Ok(())
         }
         ["clear"] => {
-            bench.rows = BTreeMap::new(alloc);
+            cases.rows = BTreeMap::new(alloc);
             Ok(())
         }
-        ["rows", edits @ ..] => edit(alloc, &mut bench.rows, edits),
-        ["entries", words @ ..] => put_entries(alloc, &mut bench.rows, words),
+        ["rows", edits @ ..] => edit(alloc, &mut cases.rows, edits),
+        ["entries", words @ ..] => put_entries(alloc, &mut cases.rows, words),
         _ => bail!("no such line"),
     }
 }
 
-fn tell(alloc: Global, bench: &mut Bench, line: &str, out: &mut String) -> Result<()> {
-    writeln!(out, "{line}")?;
-    match line.strip_prefix("ask ") {
-        Some(words) => driving::tell(alloc, &bench.config, &bench.rows, words, out),
-        None if line.starts_with('#') => Ok(()),
-        None => set(alloc, bench, line),
+impl Bench for Cases {
+    fn tell(&mut self, alloc: Global, line: &str, out: &mut String) -> Result<()> {
+        writeln!(out, "{line}")?;
+        match line.strip_prefix("ask ") {
+            Some(words) => driving::tell(alloc, &self.config, &self.rows, words, out),
+            None => set(alloc, self, line),
+        }
     }
-}
-
-fn tell_all(alloc: Global, lines: &str, out: &mut String) -> Result<()> {
-    let mut bench = Bench {
-        config: Config::single(),
-        rows: BTreeMap::new(alloc),
-    };
-    for line in lines.lines() {
-        tell(alloc, &mut bench, line, out).context(format_args!("at {line}"))?;
-    }
-    Ok(())
 }
 
 fn main(rt: HostRuntime) -> Result<()> {
     let lines = io::read_to_string(rt.alloc(), rt.reader())?;
+    let mut cases = Cases {
+        config: Config::single(),
+        rows: BTreeMap::new(rt.alloc()),
+    };
     let mut out = String::new(rt.alloc());
-    let told = tell_all(rt.alloc(), lines.as_str(), &mut out);
+    let told = tell_all(rt.alloc(), &mut cases, lines.as_str(), &mut out);
     rt.print(out.as_str())?;
     told
 }
