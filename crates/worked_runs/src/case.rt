@@ -16,6 +16,7 @@ pub struct Limits {
 pub enum Shown {
     Run,
     Plan,
+    Record,
 }
 
 #[derive(Drop)]
@@ -78,6 +79,7 @@ fn read_line(alloc: Global, case: &mut Case, line: &str) -> Result<()> {
         "source" => case.source = read_limits(alloc, rest, "piece", case.source.size)?,
         "sink" => case.sink = read_limits(alloc, rest, "room", case.sink.size)?,
         "plan" => case.shown = Shown::Plan,
+        "record" => case.shown = Shown::Record,
         "#" | "" => {}
         _ => bail!("no such line: {line}"),
     }

@@ -7,13 +7,22 @@
 //!   missing: a piece has 4,096 bytes, and no read fails.
 //! - `sink room=N failing=N,..`: the same of writes. The room is 1,000,000 bytes.
 //! - `plan`: the scenario isn't run; what it reads as is written.
+//! - `record`: there is no scenario; the lines of the input list a record of a run, and its text is written.
 //! - `# REMARK`
 //! - `scenario`, last, and behind it the lines of the input. The last one has no line feed at its end.
+//!
+//! A record's lines are these; keys, calls and replies are the bytes of which they are read, in hexadecimal.
+//! - `conflict VERSION KEY`, `gone SERVER STOP`: what the request of the next receipt went through.
+//! - `receipt CLIENT OP NUMBER SERVER MARK VERSION CALL REPLY`: number and server may be `-`, the mark is `commit` or
+//!   `seen`.
+//! - `end OPS COMMITS CONFLICTS STOPS WAITING`: the counts.
+//! - `# REMARK`
 //!
 //! In words and input `<0aff>` stands for the bytes that it names, and `<255*TEXT>` for the text, so many times.
 #![tactic(auto)]
 
 mod case;
+mod draft;
 mod marks;
 mod outcome;
 

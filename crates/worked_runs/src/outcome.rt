@@ -1,10 +1,12 @@
 //! What comes of a case.
 
 use crate::case::{Case, Shown};
+use crate::draft;
 use anyhow::{Result, ensure};
 use client_core::Script;
 use fs_io::{MemSink, MemSource};
 use meta_top::plain_main;
+use run_record::write_replies;
 use scenario::read_scenario;
 use std::alloc::Global;
 
@@ -63,6 +65,14 @@ fn tell_plan(alloc: Global, input: &[u8], out: &mut Vec<u8>) -> Result<()> {
     Ok(())
 }
 
+/// The text of the record that the case's lines list.
+fn tell_record(alloc: Global, input: &[u8], out: &mut Vec<u8>) -> Result<()> {
+    let run = draft::read(alloc, str::from_utf8(input)?)?;
+    let text = write_replies(alloc, &run)?;
+    out.extend_from_slice(text.as_slice())?;
+    Ok(())
+}
+
 /// The case's name, what comes of it, and a line feed.
 pub fn tell(alloc: Global, case: Case, out: &mut Vec<u8>) -> Result<()> {
     let line = format!(in alloc; "case {}\n", case.name)?;
@@ -70,6 +80,7 @@ pub fn tell(alloc: Global, case: Case, out: &mut Vec<u8>) -> Result<()> {
     match case.shown {
         Shown::Run => tell_run(alloc, case, out)?,
         Shown::Plan => tell_plan(alloc, case.input.as_slice(), out)?,
+        Shown::Record => tell_record(alloc, case.input.as_slice(), out)?,
     }
     push(out, "\n")
 }

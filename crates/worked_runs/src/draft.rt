@@ -1,3 +1,5 @@
+//! Records in words.
+
 use anyhow::{Context, Result, bail};
 use fs_base::{Call, Config, Items, Reply};
 use key_schema::Key;
@@ -9,7 +11,7 @@ use txn_task::Receipt;
 
 /// What the lines so far have listed.
 #[derive(Drop)]
-pub struct Draft {
+struct Draft {
     receipts: Items<Listed>,
     summary: Summary,
     conflicts: Items<(u64, Key)>,
@@ -100,7 +102,7 @@ fn summary(words: &[&str]) -> Result<Summary> {
 }
 
 impl Draft {
-    pub fn new(alloc: Global) -> Draft {
+    fn new(alloc: Global) -> Draft {
         Draft {
             receipts: Items::new(alloc),
             summary: Summary {
@@ -155,7 +157,7 @@ impl Draft {
         self.push(alloc, client.parse::<u16>()?, receipt)
     }
 
-    pub fn read_line(&mut self, alloc: Global, line: &str) -> Result<()> {
+    fn read_line(&mut self, alloc: Global, line: &str) -> Result<()> {
         let words: Vec<&str> = line.split(' ').collect(alloc)?;
         let Some((kind, words)) = words.as_slice().split_first() else {
             return Ok(());
@@ -174,7 +176,7 @@ impl Draft {
     }
 
     /// The record under the defaults.
-    pub fn into_record(self, alloc: Global) -> Record {
+    fn into_record(self, alloc: Global) -> Record {
         Record {
             config: Config::single(),
             clients: Items::new(alloc),
@@ -183,4 +185,15 @@ impl Draft {
             summary: self.summary,
         }
     }
+}
+
+/// The record that lines list.
+pub fn read(alloc: Global, lines: &str) -> Result<Record> {
+    let mut draft = Draft::new(alloc);
+    for line in lines.lines() {
+        draft
+            .read_line(alloc, line)
+            .context(format_args!("at {line}"))?;
+    }
+    Ok(draft.into_record(alloc))
 }
