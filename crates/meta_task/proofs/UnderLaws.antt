@@ -26,7 +26,7 @@ use Rattle.path_walk.specs.Areas.{Area, OneKey, IsNextOf}
 use Rattle.path_walk.specs.Footprint.{call_areas, footprint, if_new}
 use Rattle.path_walk.specs.Owed.{HasRead, IsJustified, IsNewAsk, IsOpCommit, MayAsk, KeepsEffect, KeepsAreas}
 use Rattle.path_walk.specs.Sound.{IsJustifiedReply, IsSoundEntry, kept_value}
-use Rattle.path_walk.proofs.SoundLaws.{sound_entry}
+use Rattle.path_walk.proofs.PutLaws.{sound_entry}
 use Rattle.path_walk.proofs.AreaLaws.{are_read_more}
 use Rattle.path_walk.proofs.StepLaws.{areas_on, may_behind, read_behind, effect_more, areas_more, kept_before_more}
 use Rattle.path_walk.proofs.WholeLaws.{told_query, told_update, update_reads}

@@ -12,7 +12,7 @@ pub struct MetaEntry {
 impl EntryLaw for MetaEntry {
     ghost use Rattle.row_tree.specs.HasTree.{AreWellFormed};
     ghost use Rattle.path_walk.specs.Sound.{IsSoundEntry};
-    ghost use Rattle.path_walk.proofs.SoundLaws.{sound_keeps_good};
+    ghost use Rattle.path_walk.proofs.PutLaws.{sound_keeps_good};
 
     ghost reads_of = { λ e. e.entry.reads };
 

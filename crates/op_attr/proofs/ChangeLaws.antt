@@ -1,16 +1,15 @@
 -- What setattr owes where its walk has ended.
-use Rattle.std.proofs.Common.{◌≡◌, ◌≢◌, ℕ, ◌<◌, ◌^◌, List, [], ◌∷◌, refl, sym, ap, subst, ◌∙◌, inl, inr}
-use Rattle.std.specs.Prelude.{Option, Some, IsTrue}
+use Rattle.std.proofs.Common.{◌≡◌, ◌≢◌, ℕ, ◌<◌, ◌^◌, List, [], ◌∷◌, refl, sym, ap, subst, ◌∙◌, inl, inr, true}
+use Rattle.std.specs.Prelude.{Option, Some, IsTrue, None, unwrap_or}
 use Rattle.std.specs.Option.{option_map}
 use Rattle.std.specs.FinMap.{FinMap, insert}
 use Rattle.std.specs.Ordering.{nat_cmp}
 use Rattle.conflict_sets.specs.declared.sets.ReadSet.{ReadSet}
 use Rattle.fs_base.specs.Config.{Settings}
 use Rattle.fs_base.specs.declared.call.Changes.{Changes}
-use Rattle.fs_base.specs.declared.ids.ClientId.{ClientId}
 use Rattle.fs_base.specs.declared.kind.Kind.{Kind}
 use Rattle.fs_base.specs.declared.reply.Reply.TheVariants.{Done}
-use Rattle.inode_record.specs.Inode.{spelled_inode, is_inode}
+use Rattle.inode_record.specs.Inode.{spelled_inode, is_inode, head, head_of, access, times}
 use Rattle.inode_record.specs.declared.inode.InodeRow.{InodeRow}
 use Rattle.key_schema.specs.Keys.{spelled_key}
 use Rattle.key_schema.specs.declared.key.Key.{Key}
@@ -41,8 +40,54 @@ use Rattle.op_attr.specs.declared.task.AttrCall.TheVariants as attr
 use Rattle.op_attr.specs.Changing.{changed_row, PutsChanged}
 use Rattle.op_attr.specs.Attr.{MaySet}
 use Rattle.op_attr.specs.Ending.{IsEndStep}
-use Rattle.op_attr.proofs.Fitting.{changed_fits, done_fits}
+use Rattle.row_records.proofs.InRange.{done_fits}
 use Rattle.op_attr.proofs.ReadLaws.{StandsAt, node_at}
+use Rattle.std.proofs.lemmas.Bool.{and_parts}
+use Rattle.byte_fields.proofs.InRange.{both}
+use Rattle.inode_record.proofs.InRange.{fits_row, same_part}
+use Rattle.byte_fields.specs.Fields.{mode, time, optional, number_1, number_4}
+use Rattle.byte_fields.specs.Forms.{Form}
+use Rattle.row_records.specs.Calls.{changes}
+
+-- ---- the changed row has its numbers in their ranges
+
+-- what is given, or what stands there
+chosen : (form : Form ℕ) (given : Option ℕ) (old : ℕ) → (optional form).fits given ≡ true → form.fits old ≡ true → form.fits (unwrap_or given old) ≡ true
+unfolding number_1
+chosen form None old fits stands = stands
+chosen form (Some new) old fits stands = fits
+
+module _ (given : Changes) (stamp : ℕ) (row : InodeRow) (ok : changes.fits given ≡ true) (time_ok : time.fits stamp ≡ true) where
+  access_fits : access.fits ((head_of row).access) ≡ true → access.fits ((head_of (changed_row given stamp row)).access) ≡ true
+  unfolding access changes
+  access_fits fits =
+      let mode_given = and_parts ((optional mode).fits given.mode) _ ok in
+      let owner_given = and_parts ((optional number_4).fits given.owner) _ mode_given.1 in
+      let group_given = and_parts ((optional number_4).fits given.group) _ owner_given.1 in
+      let mode_there = and_parts (mode.fits row.mode) _ fits in
+      let owner_there = and_parts (number_4.fits row.owner) _ mode_there.1 in
+      let group_there = and_parts (number_4.fits row.group) _ owner_there.1 in
+      both (chosen mode given.mode row.mode mode_given.0 mode_there.0)
+      (both (chosen number_4 given.owner row.owner owner_given.0 owner_there.0)
+      (both (chosen number_4 given.group row.group group_given.0 group_there.0) group_there.1))
+
+  times_fit : times.fits ((head_of row).times) ≡ true → times.fits ((head_of (changed_row given stamp row)).times) ≡ true
+  unfolding times changes
+  times_fit fits =
+      let mode_given = and_parts ((optional mode).fits given.mode) _ ok in
+      let owner_given = and_parts ((optional number_4).fits given.owner) _ mode_given.1 in
+      let group_given = and_parts ((optional number_4).fits given.group) _ owner_given.1 in
+      let times_given = and_parts ((optional time).fits given.atime) _ group_given.1 in
+      let atime_there = and_parts (time.fits row.atime) _ fits in
+      let mtime_there = and_parts (time.fits row.mtime) (time.fits row.ctime) atime_there.1 in
+      both (chosen time given.atime row.atime times_given.0 atime_there.0) (both (chosen time given.mtime row.mtime times_given.1 mtime_there.0) time_ok)
+
+  head_fits : head.fits (head_of row) ≡ true → head.fits (head_of (changed_row given stamp row)) ≡ true
+  unfolding head
+  head_fits fits = let each = and_parts (access.fits (head_of row).access) (times.fits (head_of row).times) fits in both (access_fits each.0) (times_fit each.1)
+
+  changed_fits : IsTrue (is_inode row) → IsTrue (is_inode (changed_row given stamp row))
+  changed_fits fits = same_part row (changed_row given stamp row) refl (head_fits (fits_row row fits).0) fits
 
 module _ (id : ℕ) (kind : Kind) (stamp : ℕ) (given : Changes) (may : MaySet (attr.Setattr stamp given)) (small : id < 2 ^ 36) (reads : ReadSet) (row : InodeRow) (is : StandsAt reads id row) where
   abbrev new : InodeRow
@@ -89,15 +134,12 @@ module _ (id : ℕ) (kind : Kind) (stamp : ℕ) (given : Changes) (may : MaySet 
   one_put C other = (
     record {
       valid = small;
-      no_kept = λ client e. no_client client e;
+      no_kept = refl;
       changes = λ S good agrees. ((refl, changed_fits given stamp row may.1 may.0 (fits S agrees)), (λ same. other (that row (new) (sym (ap (option_map InodeValue) (is S agrees)) ∙ same))));
     },
     tt,
   )
     where
-      no_client : (client : ClientId) → keys.Idem client ≡ keys.Inode id → ⊥
-      no_client client e = cc
-
       that : (a b : InodeRow) → Some (InodeValue a) ≡ Some (InodeValue b) → b ≡ a
       that a b e = cc
 

@@ -1,4 +1,2 @@
-pub mod BeginLaws
 pub mod ChangeLaws
-pub mod Fitting
 pub mod ReadLaws

@@ -176,16 +176,9 @@ impl AttrTask {
         if self.failed {
             return Err(Memory);
         }
-        match self.go_on(alloc, txn) {
-            Ok(step) => {
-                self.failed = false;
-                Ok(step)
-            }
-            Err(Memory) => {
-                self.failed = true;
-                Err(Memory)
-            }
-        }
+        let step = self.go_on(alloc, txn);
+        self.failed = step.is_err();
+        step
     }
 
     /// The walk, and what the call does where it ends.

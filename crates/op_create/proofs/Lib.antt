@@ -1,4 +1,1 @@
-pub mod BeginLaws
 pub mod CreateLaws
-pub mod Fitting
-pub mod Making

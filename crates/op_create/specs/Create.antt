@@ -1,13 +1,13 @@
 -- What a call that makes a node comes to while it is under way, and what it still reads.
-use Rattle.std.specs.Prelude.{◌≡◌, ◌^◌, ◌<◌, IsTrue, true, List}
-use Rattle.byte_fields.specs.Fields.{path_text}
+use Rattle.std.specs.Prelude.{◌≡◌, ◌^◌, ◌<◌, true, List}
 use Rattle.conflict_sets.specs.declared.sets.ReadSet.{ReadSet}
+use Rattle.fs_base.specs.Config.{Settings}
 use Rattle.fs_base.specs.declared.call.Call.{Call}
 use Rattle.fs_base.specs.declared.call.Call.TheVariants as calls
+use Rattle.row_tree.specs.NewRows.{IsPart}
 use Rattle.row_tree.specs.TypedRows.{TypedRows}
 use Rattle.row_tree.specs.WellFormed.{IsWellFormed}
-use Rattle.tree_model.specs.declared.new_node.NewPart.{NewPart}
-use Rattle.tree_model.specs.declared.new_node.NewPart.TheVariants as new
+use Rattle.tree_model.specs.declared.new_node.NewNode.{NewNode}
 use Rattle.tree_model.specs.declared.walk.Walked.{Walked}
 use Rattle.tree_model.specs.Creating.{is_layout, make_at}
 use Rattle.tree_model.specs.Effects.{Effect}
@@ -46,27 +46,19 @@ IsEndStep task walked before after s = HasDone task.config (λ T. child_at task.
 
 -- ---- what the row of the new node asks
 
--- a link's target may stand in its row
-abbrev pub IsPart : NewPart → Type 0
-IsPart new.Dir = Unit {0}
-IsPart new.File = Unit {0}
-IsPart (new.Link target) = IsTrue (path_text.fits target)
-
 -- past the words of the call
-pub record IsMaking (task : CreateTask) : Type 0 where
-  pub layout : is_layout task.config task.node.layout ≡ true
-  pub part : IsPart task.node.part
+pub record IsMaking (C : Settings) (node : NewNode) : Type 0 where
+  pub layout : is_layout C node.layout ≡ true
+  pub part : IsPart node.part
 
-abbrev pub IsWalkReady : CreateTask → Stage → Type 0
-IsWalkReady task (Refused code) = Unit {0}
-IsWalkReady task (Walking walk) = IsMaking task
+abbrev pub IsWalkReady : Settings → NewNode → Stage → Type 0
+IsWalkReady C node (Refused code) = Unit {0}
+IsWalkReady C node (Walking walk) = IsMaking C node
 
-pub record IsReady (task : CreateTask) : Type 0 where
-  pub server : task.server < 16
-  pub mode : task.node.mode < 4096
-  pub stamp : task.stamp < 2 ^ 53
-  pub walking : IsWalkReady task task.stage
+-- numbers in their ranges, and past the words where the walk is under way
+abbrev pub IsReady : CreateTask → Type 0
+IsReady task = (task.server < 16) × (task.node.mode < 4096) × (task.stamp < 2 ^ 53) × IsWalkReady task.config task.node task.stage
 
 -- where well-formed rows agree with the reads, the way has come past the words
 abbrev pub HasComeTo : CreateTask → ReadSet → Type 0
-HasComeTo task reads = (S : TypedRows) → IsWellFormed task.config S → Agrees S reads → IsMaking task
+HasComeTo task reads = (S : TypedRows) → IsWellFormed task.config S → Agrees S reads → IsMaking task.config task.node

@@ -1,53 +1,25 @@
--- The rows of a new node, and what is known before they are put.
+-- What is put for a new node, and what is known before.
 use Rattle.std.specs.Prelude.{◌≡◌, ℕ, ◌+◌, List, [], ◌∷◌, Option, Some, None}
 use Rattle.std.specs.FinMap.{get}
 use Rattle.conflict_sets.specs.declared.sets.ReadSet.{ReadSet}
-use Rattle.fs_base.specs.Config.{Settings, layout_at}
+use Rattle.fs_base.specs.Config.{Settings}
 use Rattle.fs_base.specs.declared.kind.Kind.TheVariants as kinds
 use Rattle.fs_base.specs.declared.layout.DefaultLayout.{DefaultLayout}
-use Rattle.inode_record.specs.declared.inode.InodePart.{InodePart}
 use Rattle.inode_record.specs.declared.inode.InodePart.TheVariants as parts
 use Rattle.inode_record.specs.declared.inode.InodeRow.{InodeRow}
 use Rattle.key_schema.specs.declared.key.Key.{Key}
 use Rattle.key_schema.specs.declared.key.Key.TheVariants as keys
-use Rattle.row_records.specs.declared.rows.DentRow.{DentRow}
+use Rattle.row_tree.specs.NewRows.{new_entry, new_row}
 use Rattle.row_tree.specs.Values.{Value, AllocValue, DentValue, InodeValue}
-use Rattle.row_tree.specs.TypedRows.{TypedRows, kind_of}
+use Rattle.row_tree.specs.TypedRows.{TypedRows}
 use Rattle.row_tree.specs.WellFormed.{IsWellFormed, HasKind}
-use Rattle.tree_model.specs.declared.new_node.NewNode.{NewNode}
-use Rattle.tree_model.specs.declared.new_node.NewPart.{NewPart}
-use Rattle.tree_model.specs.declared.new_node.NewPart.TheVariants as new
-use Rattle.tree_model.specs.Creating.{id_of, first_hint}
+use Rattle.tree_model.specs.Creating.{id_of}
 use Rattle.tree_model.specs.Tree.{next_at}
 use Rattle.txn_task.specs.Agreeing.{Agrees}
 use Rattle.txn_task.specs.Wanted.{IsUnread, IsKeyRead}
 use Rattle.op_create.specs.declared.next.InDir.{InDir}
 use Rattle.op_create.specs.declared.next.InDir.TheVariants as found
 use Rattle.op_create.specs.declared.task.CreateTask.{CreateTask}
-
--- ---- the rows
-
-abbrev pub row_part : Settings → NewPart → ℕ → ℕ → DefaultLayout → InodePart
-row_part C new.Dir id dir layout = parts.Dir dir layout.chunk layout.stripe
-row_part C new.File id dir layout = parts.File 0 0 (layout_at C id layout) (first_hint layout.stripe)
-row_part C (new.Link target) id dir layout = parts.Link target
-
--- one entry leads to it; owner and group are 0, and each time is the stamp
-abbrev pub new_row : Settings → NewNode → ℕ → ℕ → ℕ → DefaultLayout → InodeRow
-new_row C node stamp id dir layout = record {
-  mode = node.mode;
-  owner = 0;
-  group = 0;
-  links = 1;
-  atime = stamp;
-  mtime = stamp;
-  ctime = stamp;
-  part = row_part C node.part id dir layout;
-}
-
--- the entry that leads to it
-abbrev pub new_entry : ℕ → InodeRow → DentRow
-new_entry id row = record { inode = id; kind = kind_of row.part }
 
 -- the inode's row, the entry, and the server's next number raised; the last put stands first
 abbrev pub node_puts : CreateTask → ℕ → List ℕ → DefaultLayout → ℕ → List (Key × Option Value)

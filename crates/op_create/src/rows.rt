@@ -4,7 +4,8 @@ ghost use Rattle.tree_model.specs.Creating.{id_of};
 ghost use Rattle.tree_model.specs.declared.walk.Walked.TheVariants.{AtParent};
 ghost use Rattle.path_walk.specs.Puts.{put_writes};
 ghost use Rattle.op_create.specs.Create.{IsEndStep, IsReady, HasComeTo};
-ghost use Rattle.op_create.specs.NewRows.{MayMake, row_part, new_row, node_puts};
+ghost use Rattle.row_tree.specs.NewRows.{new_row, row_part};
+ghost use Rattle.op_create.specs.NewRows.{MayMake, node_puts};
 
 use crate::task::CreateTask;
 use fs_base::{Code, Config, DefaultLayout, InodeId, Items, Limit, Memory, Name, Reply};

@@ -1,10 +1,21 @@
 -- Areas one after another: what was read of them, and which ask is the next.
-use Rattle.std.proofs.Common.{◌≡◌, ◌⊎◌, ℕ, List, [], ◌∷◌, ◌++◌, map, refl, sym, ap, subst, ◌∙◌, inl, inr}
-use Rattle.std.specs.Prelude.{Some, None, IsTrue}
+use Rattle.std.proofs.Common.{◌≡◌, ℕ, List, [], ◌∷◌, ◌++◌, map, refl, sym, ap, subst, ◌∙◌, inl, inr}
+use Rattle.std.specs.Prelude.{Option, Some, None, IsTrue}
+use Rattle.std.specs.FinMap.{get}
+use Rattle.path_walk.specs.Footprint.{in_dir, in_part}
 use Rattle.std.specs.Ordering.{is_le}
 use Rattle.conflict_sets.specs.Keys.{key_cmp}
 use Rattle.conflict_sets.specs.declared.sets.RangeRead.{RangeRead}
 use Rattle.conflict_sets.specs.declared.sets.ReadSet.{ReadSet}
+use Rattle.fs_base.specs.declared.kind.Kind.TheVariants as kinds
+use Rattle.inode_record.specs.declared.inode.InodePart.{InodePart}
+use Rattle.inode_record.specs.declared.inode.InodePart.TheVariants as parts
+use Rattle.inode_record.specs.declared.inode.InodeRow.{InodeRow}
+use Rattle.row_tree.specs.TreeOf.{tree_of, node_part}
+use Rattle.row_tree.specs.TypedRows.{TypedRows, kind_of}
+use Rattle.row_tree.specs.WellFormed.{HasKind}
+use Rattle.row_tree.proofs.Telling.{node_is}
+use Rattle.tree_model.specs.declared.node.Node.{Node}
 use Rattle.tree_model.specs.declared.walk.Walked.{Walked}
 use Rattle.tree_model.specs.Walk.{Visit, Trip}
 use Rattle.txn_task.specs.Pages.{next_page}
@@ -15,7 +26,7 @@ use Rattle.txn_task.specs.declared.messages.Ask.{Ask}
 use Rattle.txn_task.specs.declared.messages.Ask.TheVariants as asks
 use Rattle.txn_task.proofs.MoreLaws.{key_more, first_more, pages_more, pages_done}
 use Rattle.txn_task.proofs.PageRows.{page_inside, key_from}
-use Rattle.path_walk.specs.Areas.{Area, OneKey, FirstRow, Pages, IsRead, AreRead, IsAskOf, IsNextOf, IsArea, IsRangeArea, Reaches, visited, trip_areas}
+use Rattle.path_walk.specs.Areas.{Area, OneKey, FirstRow, Pages, IsRead, AreRead, IsAskOf, IsNextOf, Reaches, visited, trip_areas}
 use Rattle.path_walk.specs.Walks.{after_visits, AreSeen}
 
 -- ---- one after another
@@ -77,3 +88,18 @@ pub next_reaches : (reads : ReadSet) (areas : List Area) (ask : Ask) → IsNextO
 next_reaches reads [] ask h = absurd h
 next_reaches reads (area ∷ areas) ask (inl here) = asks_reach reads area areas ask here
 next_reaches reads (area ∷ areas) ask (inr later) = reaches_later area areas ask (next_reaches reads areas ask later.1)
+
+-- ---- in a directory
+
+-- what is no directory has nothing in it that is read
+pub no_areas : (S : TypedRows) (dir : ℕ) (areas : List Area) → (HasKind S dir kinds.Dir → ⊥) → in_dir (get (tree_of S).nodes dir) areas ≡ []
+no_areas S dir areas not_dir = by (get S.inodes dir) refl
+  where
+    by_part : (row : InodeRow) → get S.inodes dir ≡ Some row → (part : InodePart) → row.part ≡ part → in_part (node_part part) areas ≡ []
+    by_part row at (parts.Dir parent chunk stripe) is = absurd (not_dir (row, at, ap kind_of is))
+    by_part row at (parts.File length truncs layout hint) is = refl
+    by_part row at (parts.Link target) is = refl
+
+    by : (o : Option InodeRow) → get S.inodes dir ≡ o → in_dir (get (tree_of S).nodes dir) areas ≡ []
+    by None at = ap (λ (n : Option Node). in_dir n areas) (node_is S dir None at)
+    by (Some row) at = ap (λ (n : Option Node). in_dir n areas) (node_is S dir (Some row) at) ∙ by_part row at row.part refl

@@ -86,6 +86,7 @@ LeavesWrites step writes = writes ≡ []
 pub record HasDone (C : Settings) (areas : Tree → List Area) (effect : Tree → Effect) (before after : Transaction) (s : OpStep) : Type 0 where
   pub reads : after.reads ≡ before.reads
   pub snapshot : after.snapshot ≡ before.snapshot
+  pub versions : after.versions ≡ before.versions
   pub step : IsOpStep C areas effect after s
   pub unwritten : LeavesWrites s after.writes
 

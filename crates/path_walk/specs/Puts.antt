@@ -1,10 +1,9 @@
 -- What an operation puts, as one list: the writes of it, the rows that it makes, and what it owes.
-use Rattle.std.specs.Prelude.{◌≡◌, ◌≢◌, List, [], ◌∷◌, Option}
+use Rattle.std.specs.Prelude.{◌≡◌, ◌≢◌, Bool, true, false, List, [], ◌∷◌, Option}
 use Rattle.std.specs.Option.{option_map}
 use Rattle.conflict_sets.specs.declared.sets.ReadSet.{ReadSet}
 use Rattle.conflict_sets.specs.declared.sets.Write.{Write}
 use Rattle.fs_base.specs.Config.{Settings}
-use Rattle.fs_base.specs.declared.ids.ClientId.{ClientId}
 use Rattle.fs_base.specs.declared.reply.Reply.{Reply}
 use Rattle.key_schema.specs.Keys.{spelled_key, IsValidKey}
 use Rattle.key_schema.specs.declared.key.Key.{Key}
@@ -28,10 +27,15 @@ abbrev pub with_puts : TypedRows → List (Key × Option Value) → TypedRows
 with_puts S [] = S
 with_puts S (put ∷ puts) = write (with_puts S puts) put.0 put.1
 
+-- the key of a client's kept reply
+abbrev pub holds_reply : Key → Bool
+holds_reply (keys.Idem client) = true
+holds_reply key = false
+
 -- a valid key of no kept reply; in all well-formed rows that agree with the reads, a value that it may have and hasn't yet
 pub record IsPut (C : Settings) (reads : ReadSet) (key : Key) (value : Option Value) : Type 0 where
   pub valid : IsValidKey key
-  pub no_kept : (client : ClientId) → keys.Idem client ≢ key
+  pub no_kept : holds_reply key ≡ false
   pub changes : (S : TypedRows) → IsWellFormed C S → Agrees S reads → IsValueOf key value × (lookup S key ≢ value)
 
 abbrev pub ArePuts : Settings → ReadSet → List (Key × Option Value) → Type 0

@@ -155,16 +155,9 @@ impl Walk {
         if self.failed {
             return Err(Memory);
         }
-        match self.go_on(alloc, txn) {
-            Ok(step) => {
-                self.failed = false;
-                Ok(step)
-            }
-            Err(Memory) => {
-                self.failed = true;
-                Err(Memory)
-            }
-        }
+        let step = self.go_on(alloc, txn);
+        self.failed = step.is_err();
+        step
     }
 
     /// Past the base, name by name, until an ask or the end.

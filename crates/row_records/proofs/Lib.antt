@@ -1,3 +1,4 @@
 pub mod CallLaws
+pub mod InRange
 pub mod ReplyLaws
 pub mod RowLaws

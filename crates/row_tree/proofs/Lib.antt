@@ -6,6 +6,8 @@ pub mod Decided
 pub mod Decides
 pub mod Decoded
 pub mod DirRanges
+pub mod Making
+pub mod NewRowLaws
 pub mod OneTree
 pub mod OneValue
 pub mod Opening

@@ -1,5 +1,5 @@
 -- What a look-up in the rows tells of their tree.
-use Rattle.std.proofs.Common.{◌≡◌, ◌≢◌, ℕ, zero, suc, ◌==◌, Bool, true, false, cond, List, ◌∷◌, refl, sym, ap, ◌∙◌, ne_eqb}
+use Rattle.std.proofs.Common.{◌≡◌, ◌≢◌, ℕ, zero, suc, true, false, cond, List, ◌∷◌, refl, sym, ap, ◌∙◌}
 use Rattle.std.specs.Prelude.{Option, Some, None}
 use Rattle.std.specs.Option.{option_map, unwrap_or}
 use Rattle.std.specs.Ordering.{nat_cmp}
@@ -7,7 +7,6 @@ use Rattle.std.specs.FinMap.{get}
 use Rattle.fs_base.specs.Config.{Settings}
 use Rattle.fs_base.specs.declared.code.Code.TheVariants.{NotFound, NotDir}
 use Rattle.fs_base.specs.declared.kind.Kind.TheVariants as kinds
-use Rattle.fs_base.specs.declared.path.Path.{Path}
 use Rattle.inode_record.specs.declared.inode.InodePart.{InodePart}
 use Rattle.inode_record.specs.declared.inode.InodePart.TheVariants as parts
 use Rattle.inode_record.specs.declared.inode.InodeRow.{InodeRow}
@@ -18,7 +17,7 @@ use Rattle.tree_model.specs.declared.walk.WalkEnd.{WalkEnd}
 use Rattle.tree_model.specs.declared.walk.Walked.TheVariants.{AtParent, Stopped}
 use Rattle.tree_model.specs.Maps.{dent_cmp, session_cmp}
 use Rattle.tree_model.specs.Tree.{Tree, next_at}
-use Rattle.tree_model.specs.Walk.{Inode, Entry, Trip, Behind, stay, visiting, at_file, is_last_of_parent, at_link, at_part, at_node, at_entry, down, walk, if_dir, from_base}
+use Rattle.tree_model.specs.Walk.{Entry, Trip, Behind, stay, visiting, at_file, is_last_of_parent, at_link, at_part, at_node, at_entry, down, walk, if_dir, from_base}
 use Rattle.tree_model.specs.Walking.{follow_of}
 use Rattle.tree_model.proofs.MapLaws.{get-map_values}
 use Rattle.row_tree.specs.TypedRows.{TypedRows, kind_of}

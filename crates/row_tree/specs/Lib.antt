@@ -1,6 +1,7 @@
 pub mod Ascending
 pub mod Deciding
 pub mod HasTree
+pub mod NewRows
 pub mod Opening
 pub mod Reading
 pub mod Spelling

@@ -71,6 +71,8 @@ fn an_attempt_keeps_what_it_is_answered(rt: HostRuntime) -> Result<(), Fail> {
     txn = with_number(alloc)?;
     assert!(rt; txn.snapshot() == 7);
     assert!(rt; matches!(want_alloc(alloc, &txn, 0)?, Want::There(6)));
+    assert!(rt; txn.written_by(b"ALOC\0") == Some(3));
+    assert!(rt; txn.written_by(b"ALOC\x01") == None);
     assert!(rt; matches!(want_inode(alloc, &txn, InodeId::root())?, Want::Ask(_)));
     assert!(rt;
         matches!(

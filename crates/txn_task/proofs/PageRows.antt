@@ -1,11 +1,11 @@
 -- Where all pages of a range were read, their rows are the range; and what its first row tells.
-use Rattle.std.proofs.Common.{◌≡◌, ℕ, zero, suc, ◌+◌, ◌<◌, ◌≤◌, ◌^◌, ◌==◌, eq-eqb, eqb-true, min, Bool, true, false, cond, List, [], ◌∷◌, ◌++◌, map, take, length, Option, Some, None, refl, sym, ap, subst, ◌∙◌, arith}
+use Rattle.std.proofs.Common.{◌≡◌, ℕ, zero, suc, ◌+◌, ◌<◌, ◌≤◌, ◌^◌, ◌==◌, eq-eqb, eqb-true, min, Bool, true, false, cond, List, [], ◌∷◌, ◌++◌, map, take, length, Option, Some, None, refl, sym, ap, subst, ◌∙◌, arith, get_or}
 use Rattle.std.specs.Prelude.{◌&&◌, Result, Ok, Err, IfOk}
 use Rattle.std.specs.FinMap.{get}
 use Rattle.std.specs.Option.{option_and_then}
 use Rattle.std.specs.Ordering.{is_eq, is_lt, is_le, is_ge, is_gt}
 use Rattle.std.proofs.lemmas.Bool.{eqb-false}
-use Rattle.std.proofs.lemmas.List.{append-nil, length-take, take-append-drop}
+use Rattle.std.proofs.lemmas.List.{append-nil, length-take, take-append-drop, take_more, take_all}
 use Rattle.conflict_sets.specs.Keys.{key_cmp}
 use Rattle.conflict_sets.specs.Ranges.{range_rows, last_key, key_after}
 use Rattle.conflict_sets.specs.Reads as bytes
@@ -265,3 +265,18 @@ dir_tells reads dir lo hi from to (Err e) fits a b pair h = tt
 pub dir_pages : (reads : ReadSet) (dir : ℕ) (lo hi from to : List ℕ) (want : Option Ask) → lo ≡ from → hi ≡ to → ◌≡◌ {A = List ℕ × List ℕ} (from, to) (dir_prefix dir, raised (dir_prefix dir)) → IsWantPages want reads lo hi → IsWantPages want reads (dir_prefix dir) (raised (dir_prefix dir))
 dir_pages reads dir lo hi from to want a b pair h =
     subst (λ (p : List ℕ × List ℕ). IsWantPages want reads p.0 p.1) pair (subst (λ x. IsWantPages want reads from x) b (subst (λ x. IsWantPages want reads x hi) a h))
+
+by_front : {X : Type 0} (xs : List X) (i : ℕ) (x : X) → i + 1 ≡ length xs → get_or xs i x ≡ x → take i xs ++ x ∷ [] ≡ xs
+by_front xs i x l at = ap (λ y. take i xs ++ y ∷ []) (sym at) ∙ (sym (take_more xs i x (omega arith)) ∙ take_all (i + 1) xs (omega arith))
+
+last_added : (rows : List Row) (row : Row) → last_key (rows ++ row ∷ []) ≡ Some row.key
+last_added [] row = refl
+last_added (x ∷ []) row = refl
+last_added (x ∷ y ∷ rows) row = last_added (y ∷ rows) row
+
+last_is : (rows : List Row) (i : ℕ) (row : Row) → i + 1 ≡ length rows → get_or rows i row ≡ row → last_key rows ≡ Some row.key
+last_is rows i row l at = ap last_key (sym (by_front rows i row l at)) ∙ last_added (take i rows) row
+
+pub after_is : (lo : List ℕ) (rows : List Row) (i : ℕ) (row : Row) → length rows ≡ 128 → i + 1 ≡ length rows → get_or rows i row ≡ row → start_behind lo row.key ≡ start_after lo rows
+after_is lo rows i row full l at =
+    sym (ap (λ b. cond b (option_and_then (start_behind lo) (last_key rows)) None) (eq-eqb (length rows) 128 full) ∙ ap (option_and_then (start_behind lo)) (last_is rows i row l at))

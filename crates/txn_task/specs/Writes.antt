@@ -23,6 +23,12 @@ abbrev pub read_of : List KeyRead → List ℕ → Option (Option (List ℕ))
 read_of [] key = None
 read_of (read ∷ reads) key = if is_eq (key_cmp key read.key) then Some read.value else read_of reads key
 
+-- the version that last wrote a key, if it was read: each read's stands at the same place
+abbrev pub version_of : List KeyRead → List ℕ → List ℕ → Option ℕ
+version_of [] versions key = None
+version_of (read ∷ reads) [] key = None
+version_of (read ∷ reads) (version ∷ versions) key = if is_eq (key_cmp key read.key) then Some version else version_of reads versions key
+
 -- what is written at a key, if it is
 abbrev pub written_at : List Write → List ℕ → Option (Option (List ℕ))
 written_at [] key = None

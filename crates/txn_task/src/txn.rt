@@ -1,9 +1,9 @@
-ghost use Rattle.std.specs.Prelude.{◌≡◌, ◌∷◌, ◌++◌, [], None, Some, OnOk, OnErr, IfOk};
+ghost use Rattle.std.specs.Prelude.{◌≡◌, ◌↔◌, ◌∷◌, ◌++◌, [], length, None, Some, OnOk, OnErr, IfOk};
 ghost use Rattle.std.specs.Option.{option_map};
 ghost use Rattle.key_schema.specs.Keys.{spelled_key, IsValidKey};
 ghost use Rattle.txn_task.specs.Agreeing.{AreWrites};
-ghost use Rattle.txn_task.specs.Transactions.{started, noted, with_key, with_range, IsNews};
-ghost use Rattle.txn_task.specs.Writes.{set_write, read_of};
+ghost use Rattle.txn_task.specs.Transactions.{started, with_answer, with_key, with_range, IsNews};
+ghost use Rattle.txn_task.specs.Writes.{set_write, read_of, version_of};
 
 use crate::messages::{Answer, Ask};
 use crate::writes::set_in;
@@ -19,6 +19,7 @@ use std::mem;
 pub struct Txn {
     snapshot: u64,
     reads: ReadSet,
+    versions: Vec<u64>,
     writes: Vec<Write>,
 }
 
@@ -32,11 +33,12 @@ impl Model for Txn {
 
     ghost coded = { Prim.hlevel (codes, read_set.the_row.coded, write.the_row.coded) };
 
-    ghost view = { λ t. record { snapshot = t.snapshot; reads = t.reads; writes = t.writes.items } };
+    ghost view = { λ t. record { snapshot = t.snapshot; reads = t.reads; versions = t.versions.items; writes = t.writes.items } };
 
+    ghost use Rattle.std.specs.Prelude.{◌≡◌, length};
     ghost use Rattle.conflict_sets.specs.Writes.{AreAscending};
 
-    ghost invariant = { λ t. AreAscending t.writes.items };
+    ghost invariant = { λ t. AreAscending t.writes.items × (length t.versions.items ≡ length t.reads.keys) };
 }
 
 fn no_reads(alloc: Global) -> ReadSet
@@ -55,6 +57,19 @@ fn read_in<'a>(reads: &'a [KeyRead], key: &[u8]) -> Option<&'a Option<Text>>
     for read in reads {
         if compare(key, read.key.as_slice()).is_eq() {
             return Some(&read.value);
+        }
+    }
+    None
+}
+
+/// The version that last wrote a key, if it was read.
+fn version_in(reads: &[KeyRead], versions: &[u64], key: &[u8]) -> Option<u64>
+    requires { length versions.now ≡ length reads.now }
+    ensures { result ≡ version_of reads.now versions.now key.now }
+{
+    for (place, read) in reads.iter().enumerate() {
+        if compare(key, read.key.as_slice()).is_eq() {
+            return Some(versions[place]);
         }
     }
     None
@@ -132,6 +147,7 @@ impl Txn {
         Txn {
             snapshot: 0,
             reads: no_reads(alloc),
+            versions: Vec::new(alloc),
             writes: Vec::new(alloc),
         }
     }
@@ -142,6 +158,7 @@ impl Txn {
     {
         self.snapshot = version;
         self.reads = no_reads(alloc);
+        self.versions = Vec::new(alloc);
         self.writes = Vec::new(alloc);
     }
 
@@ -163,6 +180,15 @@ impl Txn {
         }
     }
 
+    /// The version that last wrote the key, 0 where no entry has: `Some` exactly where the key was read.
+    #[tactic(auto, using(crate::proofs::WriteLaws::version_read))]
+    pub fn written_by(&self, key: &[u8]) -> Option<u64>
+        ensures version { result ≡ version_of self.now.reads.keys self.now.versions key.now }
+        ensures read { (result ≡ None) ↔ (read_of self.now.reads.keys key.now ≡ None) }
+    {
+        version_in(self.reads.keys.as_slice(), self.versions.as_slice(), key)
+    }
+
     pub(crate) fn ranges(&self) -> &[RangeRead]
         ensures { result.now ≡ self.now.reads.ranges }
     {
@@ -170,12 +196,17 @@ impl Txn {
     }
 
     fn note_key(&mut self, alloc: Global, key: &Key, got: &Got) -> Result<(), Memory>
-        ensures ok { OnOk result (self.new ≡ record self.old { reads = with_key self.old.reads (spelled_key key.now) got.now.value }) }
+        ensures ok { OnOk result (self.new ≡ record self.old { reads = with_key self.old.reads (spelled_key key.now) got.now.value; versions = self.old.versions ++ got.now.version ∷ [] }) }
         ensures err { OnErr result (self.new ≡ self.old) }
     {
         let key = Text::from_vec(key.write(alloc)?);
         let value = copy_value(&got.value)?;
-        self.reads.keys.push(KeyRead { key, value })
+        self.versions.push(got.version)?;
+        if let Err(memory) = self.reads.keys.push(KeyRead { key, value }) {
+            self.versions.pop();
+            return Err(memory);
+        }
+        Ok(())
     }
 
     fn note_range(&mut self, range: RangeRead) -> Result<(), Memory>
@@ -190,7 +221,7 @@ impl Txn {
     /// Without memory for it the transaction stays as it was.
     pub fn note(&mut self, alloc: Global, ask: &Ask, answer: &Answer) -> Result<(), Memory>
         requires { IsNews self.old.reads ask.now answer.now }
-        ensures ok { OnOk result (self.new ≡ record self.old { reads = noted self.old.reads ask.now answer.now }) }
+        ensures ok { OnOk result (self.new ≡ with_answer self.old ask.now answer.now) }
         ensures err { OnErr result (self.new ≡ self.old) }
     {
         match (ask, answer) {

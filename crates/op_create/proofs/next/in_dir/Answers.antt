@@ -1,5 +1,5 @@
 use Rattle.tree_model.proofs.MapLaws.{not_some}
-use Rattle.op_create.proofs.Making.{no_directory}
+use Rattle.row_tree.proofs.Making.{no_directory}
 use Rattle.op_create.proofs.next.in_dir.Goals as goal
 
 pub returns-in-Ask : goal.returns-in-Ask

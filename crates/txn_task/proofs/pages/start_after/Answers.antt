@@ -1,6 +1,6 @@
 use Rattle.std.proofs.Common.{◌≡◌, sym, subst, arith}
 use Rattle.std.specs.Prelude.{IfOk, length, ◌-◌}
-use Rattle.txn_task.proofs.PageLemmas.{after_is}
+use Rattle.txn_task.proofs.PageRows.{after_is}
 use Rattle.txn_task.proofs.pages.start_after.Goals as goal
 
 pub returns-in-len1-up : goal.returns-in-len1-up

@@ -1,7 +1,7 @@
 use Rattle.std.proofs.Common.{◌∙◌, sym, ap, arith}
 use Rattle.std.specs.Ordering.{is_le}
 use Rattle.conflict_sets.specs.Keys.{key_cmp}
-use Rattle.txn_task.proofs.PlaceLemmas.{before_more, place_end}
+use Rattle.txn_task.proofs.WriteLaws.{before_more, place_end}
 use Rattle.txn_task.proofs.writes.place_of.Goals as goal
 
 pub loop-place-preserved : goal.loop-place-preserved

@@ -1,5 +1,5 @@
 use Rattle.std.proofs.Common.{◌∙◌, true, false}
-use Rattle.txn_task.proofs.PlaceLemmas.{Found, found, replaced, inserted, has_key_within}
+use Rattle.txn_task.proofs.WriteLaws.{Found, found, replaced, inserted, has_key_within}
 use Rattle.txn_task.proofs.writes.set_in.Goals as goal
 
 pub returns-then-has_key_at-clause-ok : goal.returns-then-has_key_at-clause-ok

@@ -1,5 +1,5 @@
 use Rattle.path_walk.specs.Stages.{trip_at}
-use Rattle.path_walk.proofs.StageLaws.{way_asks, way_ends}
+use Rattle.path_walk.proofs.StepLaws.{way_asks, way_ends}
 use Rattle.op_attr.specs.Attr.{at_end_of, read_at}
 use Rattle.op_attr.proofs.task.AttrTask.go_on.Goals as goal
 

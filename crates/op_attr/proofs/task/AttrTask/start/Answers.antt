@@ -1,6 +1,6 @@
 use Rattle.op_attr.specs.declared.task.AttrTask.{AttrTask}
 use Rattle.std.proofs.Common.{false}
-use Rattle.op_attr.proofs.BeginLaws.{begins_so, begins_areas, begins_ready}
+use Rattle.op_attr.proofs.ReadLaws.{begins_so, begins_areas, begins_ready}
 use Rattle.op_attr.proofs.task.AttrTask.start.Goals as goal
 
 pub returns-clause-effect : goal.returns-clause-effect

@@ -1,9 +1,7 @@
 use Rattle.path_walk.specs.Footprint.{child_at}
 use Rattle.path_walk.specs.Stages.{trip_at}
-use Rattle.path_walk.proofs.StageLaws.{way_asks, way_ends}
+use Rattle.path_walk.proofs.StepLaws.{way_asks, way_ends}
 use Rattle.op_create.specs.Create.{made_at}
-use Rattle.std.proofs.Common.{refl}
-use Rattle.op_create.specs.declared.task.CreateTask.{CreateTask}
 use Rattle.op_create.proofs.CreateLaws.{ready_on}
 use Rattle.op_create.proofs.task.CreateTask.go_on.Goals as goal
 
@@ -19,10 +17,10 @@ returns-in_ok-step-in-End-clause-step c =
     c.at_end.new.txn c.in_ok-step-in-End.step c.in_ok-step-in-End.ensures
 
 pub at_end-requires-clause-ready : goal.at_end-requires-clause-ready
-at_end-requires-clause-ready c = ready_on c.args.self.now (record c.args.self.now { stage = c.next.new.self }) c.requires.ready c.in_ok-ask.ensures.same refl
+at_end-requires-clause-ready c = ready_on c.args.self.now c.next.new.self c.requires.ready c.in_ok-ask.ensures.same
 
 pub returns-in-Ask-clause-ready : goal.returns-in-Ask-clause-ready
-returns-in-Ask-clause-ready c = ready_on c.args.self.now (record c.args.self.now { stage = c.next.new.self }) c.requires.ready c.in_ok-ask.ensures.same refl
+returns-in-Ask-clause-ready c = ready_on c.args.self.now c.next.new.self c.requires.ready c.in_ok-ask.ensures.same
 
 pub returns-in_ok-step-in-End-clause-ready : goal.returns-in_ok-step-in-End-clause-ready
-returns-in_ok-step-in-End-clause-ready c = ready_on c.args.self.now (record c.args.self.now { stage = c.next.new.self }) c.requires.ready c.in_ok-ask.ensures.same refl
+returns-in_ok-step-in-End-clause-ready c = ready_on c.args.self.now c.next.new.self c.requires.ready c.in_ok-ask.ensures.same

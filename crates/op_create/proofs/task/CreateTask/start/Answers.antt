@@ -1,6 +1,6 @@
 use Rattle.std.proofs.Common.{false, refl}
 use Rattle.op_create.specs.declared.task.CreateTask.{CreateTask}
-use Rattle.op_create.proofs.BeginLaws.{begins_so, begins_areas, begins_ready}
+use Rattle.op_create.proofs.CreateLaws.{begins_so, begins_areas, begins_ready}
 use Rattle.op_create.proofs.task.CreateTask.start.Goals as goal
 
 pub returns-clause-effect : goal.returns-clause-effect

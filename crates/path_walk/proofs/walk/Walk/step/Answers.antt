@@ -1,6 +1,5 @@
 use Rattle.std.proofs.Common.{refl, sym, subst, ◌∙◌, drop}
 use Rattle.tree_model.specs.declared.walk.WalkEnd.{WalkEnd}
-use Rattle.tree_model.specs.declared.walk.Walked.{Walked}
 use Rattle.tree_model.specs.declared.walk.Walked.TheVariants.{AtParent}
 use Rattle.tree_model.specs.Walk.{ends_at}
 use Rattle.txn_task.specs.Wanted.{IsUnread}
