@@ -1,5 +1,5 @@
 -- What the errors stand for.
-use Rattle.std.specs.Prelude.{ℕ, Option, Some, None}
+use Rattle.std.specs.Prelude.{ℕ, Option, Some, None, Result, IfErr, IsSome}
 use Rattle.byte_fields.specs.declared.error.FieldError.{FieldError}
 use Rattle.byte_fields.specs.declared.error.FieldError.TheVariants as fields
 use Rattle.byte_fields.specs.declared.error.RowError.{RowError}
@@ -14,3 +14,7 @@ left_of fields.Memory = None
 abbrev pub place_of : RowError → Option ℕ
 place_of (rows.NotARecord place) = Some place
 place_of rows.Memory = None
+
+-- an error is the refusal of the bytes, and never want of memory
+abbrev pub NeedsNoMemory : {X E F : Type 0} → (E → Option F) → Result X E → Type 0
+NeedsNoMemory why result = IfErr result (λ e. IsSome (why e))

@@ -2,7 +2,7 @@ ghost use Rattle.std.specs.Prelude.{◌≡◌, ℕ, List, Result, IsTrue, length
 ghost use Rattle.fs_base.specs.Gives.{Gives};
 ghost use Rattle.byte_fields.specs.Forms.{are_bytes, front, sized, placed};
 ghost use Rattle.byte_fields.specs.Fields.{version, number_1, number_2, number_4, number_8, within, inode_id, mode, time, file_size, chunk, stripe, layout, used_layout, kind, text, path_text, client};
-ghost use Rattle.byte_fields.specs.Outcome.{left_of, place_of};
+ghost use Rattle.byte_fields.specs.Outcome.{left_of, place_of, NeedsNoMemory};
 
 use crate::error::{FieldError, RowError};
 use fs_base::{ClientId, InodeId, Kind, Layout, Path, PathError, Text};
@@ -42,7 +42,8 @@ impl<'a> Cursor<'a> {
 
     /// So many bytes, as one field.
     pub fn take(&mut self, count: usize) -> Result<&'a [u8], FieldError>
-        ensures { Gives left_of (λ bytes. (bytes.now, self.new)) result ((front count).reads self.old) }
+        ensures gives { Gives left_of (λ bytes. (bytes.now, self.new)) result ((front count).reads self.old) }
+        ensures memory { NeedsNoMemory left_of result }
     {
         if count > self.rest.len() {
             return Err(FieldError::Unread(self.rest.len()));
@@ -55,7 +56,8 @@ impl<'a> Cursor<'a> {
 
     /// The next bytes, so many.
     fn array<const N: usize>(&mut self) -> Result<[u8; N], FieldError>
-        ensures { Gives left_of (λ bytes. (bytes, self.new)) result ((front N).reads self.old) }
+        ensures gives { Gives left_of (λ bytes. (bytes, self.new)) result ((front N).reads self.old) }
+        ensures memory { NeedsNoMemory left_of result }
     {
         let bytes = self.take(N)?;
         match <[u8; N]>::try_from(bytes) {
@@ -67,7 +69,8 @@ impl<'a> Cursor<'a> {
     /// A number of one byte.
     #[tactic(auto, unfolding(crate::specs::Fields::number_1))]
     pub fn u8(&mut self) -> Result<u8, FieldError>
-        ensures { Gives left_of (λ n. (n, self.new)) result (number_1.reads self.old) }
+        ensures gives { Gives left_of (λ n. (n, self.new)) result (number_1.reads self.old) }
+        ensures memory { NeedsNoMemory left_of result }
     {
         let bytes = self.take(1)?;
         Ok(bytes[0])
@@ -76,7 +79,8 @@ impl<'a> Cursor<'a> {
     /// A number of two bytes, the lower first.
     #[tactic(auto, unfolding(crate::specs::Fields::number_2))]
     pub fn u16(&mut self) -> Result<u16, FieldError>
-        ensures { Gives left_of (λ n. (n, self.new)) result (number_2.reads self.old) }
+        ensures gives { Gives left_of (λ n. (n, self.new)) result (number_2.reads self.old) }
+        ensures memory { NeedsNoMemory left_of result }
     {
         let bytes = self.array::<2>()?;
         Ok(u16::from_le_bytes(bytes))
@@ -85,7 +89,8 @@ impl<'a> Cursor<'a> {
     /// A number of four bytes, the lowest first.
     #[tactic(auto, unfolding(crate::specs::Fields::number_4))]
     pub fn u32(&mut self) -> Result<u32, FieldError>
-        ensures { Gives left_of (λ n. (n, self.new)) result (number_4.reads self.old) }
+        ensures gives { Gives left_of (λ n. (n, self.new)) result (number_4.reads self.old) }
+        ensures memory { NeedsNoMemory left_of result }
     {
         let bytes = self.array::<4>()?;
         Ok(u32::from_le_bytes(bytes))
@@ -94,7 +99,8 @@ impl<'a> Cursor<'a> {
     /// A number of eight bytes, the lowest first.
     #[tactic(auto, unfolding(crate::specs::Fields::number_8))]
     pub fn u64(&mut self) -> Result<u64, FieldError>
-        ensures { Gives left_of (λ n. (n, self.new)) result (number_8.reads self.old) }
+        ensures gives { Gives left_of (λ n. (n, self.new)) result (number_8.reads self.old) }
+        ensures memory { NeedsNoMemory left_of result }
     {
         let bytes = self.array::<8>()?;
         Ok(u64::from_le_bytes(bytes))
@@ -103,7 +109,8 @@ impl<'a> Cursor<'a> {
     /// The version byte, which is 1.
     #[tactic(auto, unfolding(crate::specs::Fields::version))]
     pub fn version(&mut self) -> Result<(), FieldError>
-        ensures { Gives left_of (λ u. (u, self.new)) result (version.reads self.old) }
+        ensures gives { Gives left_of (λ u. (u, self.new)) result (version.reads self.old) }
+        ensures memory { NeedsNoMemory left_of result }
     {
         let left = self.left();
         match self.u8()? {
@@ -114,7 +121,8 @@ impl<'a> Cursor<'a> {
 
     /// A number of two bytes from `low` to `high`.
     pub fn u16_within(&mut self, low: u16, high: u16) -> Result<u16, FieldError>
-        ensures { Gives left_of (λ n. (n, self.new)) result ((within number_2 low high).reads self.old) }
+        ensures gives { Gives left_of (λ n. (n, self.new)) result ((within number_2 low high).reads self.old) }
+        ensures memory { NeedsNoMemory left_of result }
     {
         let left = self.left();
         let number = self.u16()?;
@@ -127,7 +135,8 @@ impl<'a> Cursor<'a> {
 
     /// A number of four bytes from `low` to `high`.
     pub fn u32_within(&mut self, low: u32, high: u32) -> Result<u32, FieldError>
-        ensures { Gives left_of (λ n. (n, self.new)) result ((within number_4 low high).reads self.old) }
+        ensures gives { Gives left_of (λ n. (n, self.new)) result ((within number_4 low high).reads self.old) }
+        ensures memory { NeedsNoMemory left_of result }
     {
         let left = self.left();
         let number = self.u32()?;
@@ -140,7 +149,8 @@ impl<'a> Cursor<'a> {
 
     /// A number of eight bytes from `low` to `high`.
     pub fn u64_within(&mut self, low: u64, high: u64) -> Result<u64, FieldError>
-        ensures { Gives left_of (λ n. (n, self.new)) result ((within number_8 low high).reads self.old) }
+        ensures gives { Gives left_of (λ n. (n, self.new)) result ((within number_8 low high).reads self.old) }
+        ensures memory { NeedsNoMemory left_of result }
     {
         let left = self.left();
         let number = self.u64()?;
@@ -154,7 +164,8 @@ impl<'a> Cursor<'a> {
     /// An inode's number, below 2^36.
     #[tactic(auto, unfolding(crate::specs::Fields::inode_id))]
     pub fn inode_id(&mut self) -> Result<InodeId, FieldError>
-        ensures { Gives left_of (λ n. (n, self.new)) result (inode_id.reads self.old) }
+        ensures gives { Gives left_of (λ n. (n, self.new)) result (inode_id.reads self.old) }
+        ensures memory { NeedsNoMemory left_of result }
     {
         let number = self.u64_within(0, (1 << 36) - 1)?;
         Ok(InodeId::new(number))
@@ -163,7 +174,8 @@ impl<'a> Cursor<'a> {
     /// The twelve permission bits of POSIX, below 4,096.
     #[tactic(auto, unfolding(crate::specs::Fields::mode))]
     pub fn mode(&mut self) -> Result<u16, FieldError>
-        ensures { Gives left_of (λ n. (n, self.new)) result (mode.reads self.old) }
+        ensures gives { Gives left_of (λ n. (n, self.new)) result (mode.reads self.old) }
+        ensures memory { NeedsNoMemory left_of result }
     {
         self.u16_within(0, 4095)
     }
@@ -171,7 +183,8 @@ impl<'a> Cursor<'a> {
     /// A stamp or a time, below 2^53.
     #[tactic(auto, unfolding(crate::specs::Fields::time))]
     pub fn time(&mut self) -> Result<u64, FieldError>
-        ensures { Gives left_of (λ n. (n, self.new)) result (time.reads self.old) }
+        ensures gives { Gives left_of (λ n. (n, self.new)) result (time.reads self.old) }
+        ensures memory { NeedsNoMemory left_of result }
     {
         self.u64_within(0, (1 << 53) - 1)
     }
@@ -179,7 +192,8 @@ impl<'a> Cursor<'a> {
     /// A length or a place in a file, at most 1,099,511,627,776.
     #[tactic(auto, unfolding(crate::specs::Fields::file_size))]
     pub fn file_size(&mut self) -> Result<u64, FieldError>
-        ensures { Gives left_of (λ n. (n, self.new)) result (file_size.reads self.old) }
+        ensures gives { Gives left_of (λ n. (n, self.new)) result (file_size.reads self.old) }
+        ensures memory { NeedsNoMemory left_of result }
     {
         self.u64_within(0, 1 << 40)
     }
@@ -187,7 +201,8 @@ impl<'a> Cursor<'a> {
     /// A chunk's size in bytes, 1 to 4,194,304.
     #[tactic(auto, unfolding(crate::specs::Fields::chunk))]
     pub fn chunk(&mut self) -> Result<u32, FieldError>
-        ensures { Gives left_of (λ n. (n, self.new)) result (chunk.reads self.old) }
+        ensures gives { Gives left_of (λ n. (n, self.new)) result (chunk.reads self.old) }
+        ensures memory { NeedsNoMemory left_of result }
     {
         self.u32_within(1, 4_194_304)
     }
@@ -195,7 +210,8 @@ impl<'a> Cursor<'a> {
     /// A number of chains, 1 to 256.
     #[tactic(auto, unfolding(crate::specs::Fields::stripe))]
     pub fn stripe(&mut self) -> Result<u16, FieldError>
-        ensures { Gives left_of (λ n. (n, self.new)) result (stripe.reads self.old) }
+        ensures gives { Gives left_of (λ n. (n, self.new)) result (stripe.reads self.old) }
+        ensures memory { NeedsNoMemory left_of result }
     {
         self.u16_within(1, 256)
     }
@@ -203,7 +219,8 @@ impl<'a> Cursor<'a> {
     /// A file's layout.
     #[tactic(auto, unfolding(crate::specs::Fields::layout))]
     pub fn layout(&mut self) -> Result<Layout, FieldError>
-        ensures { Gives left_of (λ l. (l, self.new)) result (layout.reads self.old) }
+        ensures gives { Gives left_of (λ l. (l, self.new)) result (layout.reads self.old) }
+        ensures memory { NeedsNoMemory left_of result }
     {
         let chunk = self.chunk()?;
         let stripe = self.stripe()?;
@@ -220,7 +237,8 @@ impl<'a> Cursor<'a> {
     /// A file's layout and how many places of it are in use, 1 to the stripe.
     #[tactic(auto, unfolding(crate::specs::Fields::used_layout))]
     pub fn used_layout(&mut self) -> Result<(Layout, u16), FieldError>
-        ensures { Gives left_of (λ l. (l, self.new)) result (used_layout.reads self.old) }
+        ensures gives { Gives left_of (λ l. (l, self.new)) result (used_layout.reads self.old) }
+        ensures memory { NeedsNoMemory left_of result }
     {
         let layout = self.layout()?;
         let hint = self.u16_within(1, layout.stripe)?;
@@ -230,7 +248,8 @@ impl<'a> Cursor<'a> {
     /// A kind: 1 is a directory, 2 a file, 3 a link.
     #[tactic(auto, unfolding(crate::specs::Fields::kind))]
     pub fn kind(&mut self) -> Result<Kind, FieldError>
-        ensures { Gives left_of (λ k. (k, self.new)) result (kind.reads self.old) }
+        ensures gives { Gives left_of (λ k. (k, self.new)) result (kind.reads self.old) }
+        ensures memory { NeedsNoMemory left_of result }
     {
         let left = self.left();
         match self.u8()? {
@@ -244,7 +263,8 @@ impl<'a> Cursor<'a> {
     /// The 16 bytes of a UUID (RFC 9562).
     #[tactic(auto, unfolding(crate::specs::Fields::client))]
     pub fn client(&mut self) -> Result<ClientId, FieldError>
-        ensures { Gives left_of (λ c. (c, self.new)) result (client.reads self.old) }
+        ensures gives { Gives left_of (λ c. (c, self.new)) result (client.reads self.old) }
+        ensures memory { NeedsNoMemory left_of result }
     {
         let bytes = self.array::<16>()?;
         Ok(ClientId(u128::from_be_bytes(bytes)))
@@ -253,7 +273,8 @@ impl<'a> Cursor<'a> {
     /// The bytes of a text, which is one field.
     #[tactic(auto, unfolding(crate::specs::Fields::text))]
     pub fn text(&mut self) -> Result<&'a [u8], FieldError>
-        ensures { Gives left_of (λ text. (text.now, self.new)) result (text.reads self.old) }
+        ensures gives { Gives left_of (λ text. (text.now, self.new)) result (text.reads self.old) }
+        ensures memory { NeedsNoMemory left_of result }
     {
         let left = self.left();
         match self.sized() {
@@ -264,7 +285,8 @@ impl<'a> Cursor<'a> {
     }
 
     fn sized(&mut self) -> Result<&'a [u8], FieldError>
-        ensures { Gives left_of (λ text. (text.now, self.new)) result ((sized number_2).reads self.old) }
+        ensures gives { Gives left_of (λ text. (text.now, self.new)) result ((sized number_2).reads self.old) }
+        ensures memory { NeedsNoMemory left_of result }
     {
         let count = self.u16()?;
         self.take(count as usize)
@@ -294,7 +316,8 @@ impl<'a> Cursor<'a> {
 
     /// What was read, if no bytes are left; `size` is how many there were.
     pub fn finish<T: Drop>(&self, size: usize, read: Result<T, FieldError>) -> Result<T, RowError>
-        ensures { (r : Result (T × List ℕ) ℕ) → Gives left_of (λ v. (v, self.now)) read r → Gives place_of (λ v. v) result (placed size r) }
+        ensures gives { (r : Result (T × List ℕ) ℕ) → Gives left_of (λ v. (v, self.now)) read r → Gives place_of (λ v. v) result (placed size r) }
+        ensures memory { NeedsNoMemory left_of read → NeedsNoMemory place_of result }
     {
         match read {
             Ok(value) => {

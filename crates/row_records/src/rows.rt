@@ -1,6 +1,6 @@
 ghost use Rattle.std.specs.Prelude.{◌≡◌, ◌++◌, IfOk, OnOk};
 ghost use Rattle.fs_base.specs.Gives.{Gives};
-ghost use Rattle.byte_fields.specs.Outcome.{left_of, place_of};
+ghost use Rattle.byte_fields.specs.Outcome.{left_of, place_of, NeedsNoMemory};
 ghost use Rattle.row_records.specs.Rows.{dent, session_row, kept, alloc_row, by_phase, gc, spelled_dent, dent_of, spelled_session, session_of, spelled_kept, kept_of, spelled_alloc, alloc_of, spelled_gc, gc_of};
 
 use crate::reply_reading::reply;
@@ -60,7 +60,8 @@ impl DentRow {
 
     /// The row that all the bytes spell.
     pub fn read(_alloc: Global, bytes: &[u8]) -> Result<DentRow, RowError>
-        ensures { Gives place_of (λ row. row) result (dent_of bytes.now) }
+        ensures gives { Gives place_of (λ row. row) result (dent_of bytes.now) }
+        ensures memory { NeedsNoMemory place_of result }
     {
         let mut cursor = Cursor::new(bytes);
         let row = dent(&mut cursor);
@@ -70,7 +71,8 @@ impl DentRow {
 
 #[tactic(auto, unfolding(crate::specs::Rows::dent))]
 fn dent(cursor: &mut Cursor) -> Result<DentRow, FieldError>
-    ensures { Gives left_of (λ row. (row, cursor.new)) result (dent.reads cursor.old) }
+    ensures gives { Gives left_of (λ row. (row, cursor.new)) result (dent.reads cursor.old) }
+    ensures memory { NeedsNoMemory left_of result }
 {
     cursor.version()?;
     let inode = cursor.inode_id()?;
@@ -92,7 +94,8 @@ impl SessionRow {
 
     /// The row that all the bytes spell.
     pub fn read(_alloc: Global, bytes: &[u8]) -> Result<SessionRow, RowError>
-        ensures { Gives place_of (λ row. row) result (session_of bytes.now) }
+        ensures gives { Gives place_of (λ row. row) result (session_of bytes.now) }
+        ensures memory { NeedsNoMemory place_of result }
     {
         let mut cursor = Cursor::new(bytes);
         let row = session(&mut cursor);
@@ -102,7 +105,8 @@ impl SessionRow {
 
 #[tactic(auto, unfolding(crate::specs::Rows::session_row))]
 fn session(cursor: &mut Cursor) -> Result<SessionRow, FieldError>
-    ensures { Gives left_of (λ row. (row, cursor.new)) result (session_row.reads cursor.old) }
+    ensures gives { Gives left_of (λ row. (row, cursor.new)) result (session_row.reads cursor.old) }
+    ensures memory { NeedsNoMemory left_of result }
 {
     cursor.version()?;
     let stamp = cursor.time()?;
@@ -156,7 +160,8 @@ impl AllocRow {
 
     /// The row that all the bytes spell.
     pub fn read(_alloc: Global, bytes: &[u8]) -> Result<AllocRow, RowError>
-        ensures { Gives place_of (λ row. row) result (alloc_of bytes.now) }
+        ensures gives { Gives place_of (λ row. row) result (alloc_of bytes.now) }
+        ensures memory { NeedsNoMemory place_of result }
     {
         let mut cursor = Cursor::new(bytes);
         let row = next(&mut cursor);
@@ -166,7 +171,8 @@ impl AllocRow {
 
 #[tactic(auto, unfolding(crate::specs::Rows::alloc_row))]
 fn next(cursor: &mut Cursor) -> Result<AllocRow, FieldError>
-    ensures { Gives left_of (λ row. (row, cursor.new)) result (alloc_row.reads cursor.old) }
+    ensures gives { Gives left_of (λ row. (row, cursor.new)) result (alloc_row.reads cursor.old) }
+    ensures memory { NeedsNoMemory left_of result }
 {
     cursor.version()?;
     let next = cursor.u64_within(1, 4_294_967_295)?;
@@ -200,7 +206,8 @@ impl GcRow {
 
     /// The row that all the bytes spell.
     pub fn read(_alloc: Global, bytes: &[u8]) -> Result<GcRow, RowError>
-        ensures { Gives place_of (λ row. row) result (gc_of bytes.now) }
+        ensures gives { Gives place_of (λ row. row) result (gc_of bytes.now) }
+        ensures memory { NeedsNoMemory place_of result }
     {
         let mut cursor = Cursor::new(bytes);
         let row = gc(&mut cursor);
@@ -210,7 +217,8 @@ impl GcRow {
 
 #[tactic(auto, unfolding(crate::specs::Rows::gc))]
 fn gc(cursor: &mut Cursor) -> Result<GcRow, FieldError>
-    ensures { Gives left_of (λ row. (row, cursor.new)) result (gc.reads cursor.old) }
+    ensures gives { Gives left_of (λ row. (row, cursor.new)) result (gc.reads cursor.old) }
+    ensures memory { NeedsNoMemory left_of result }
 {
     cursor.version()?;
     by_phase(cursor)
@@ -218,7 +226,8 @@ fn gc(cursor: &mut Cursor) -> Result<GcRow, FieldError>
 
 #[tactic(auto, unfolding(crate::specs::Rows::by_phase))]
 fn by_phase(cursor: &mut Cursor) -> Result<GcRow, FieldError>
-    ensures { Gives left_of (λ row. (row, cursor.new)) result (by_phase.reads cursor.old) }
+    ensures gives { Gives left_of (λ row. (row, cursor.new)) result (by_phase.reads cursor.old) }
+    ensures memory { NeedsNoMemory left_of result }
 {
     let left = cursor.left();
     match cursor.u8()? {

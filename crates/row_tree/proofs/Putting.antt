@@ -36,6 +36,11 @@ pub puts_alloc : (server : ℕ) (S U : TypedRows) (bytes : List ℕ) (row : Allo
 unfolding spelled_value
 puts_alloc server S U bytes row e is = let read = allocs.exact bytes row e in (AllocValue row.next, (refl, read.0), sym read.1, is)
 
+-- bytes that read spell a value
+pub has_alloc : (server : ℕ) (bytes : List ℕ) (row : AllocRow) → alloc_of bytes ≡ Ok row → HasNoValue (keys.Alloc server) bytes → ⊥
+unfolding spelled_value
+has_alloc server bytes row e none = let read = allocs.exact bytes row e in none (AllocValue row.next) (refl, read.0) (sym read.1)
+
 pub no_dent : (dir : ℕ) (name : List ℕ) (bytes : List ℕ) (place : ℕ) → dent_of bytes ≡ Err place → HasNoValue (keys.Dent dir name) bytes
 unfolding spelled_value
 no_dent dir name bytes place e (DentValue row) is same = dents.refused bytes place row e is.1 same
@@ -45,6 +50,10 @@ pub puts_dent : (dir : ℕ) (name : List ℕ) (S U : TypedRows) (bytes : List �
 unfolding spelled_value
 puts_dent dir name S U bytes row e is = let read = dents.exact bytes row e in (DentValue row, (refl, read.0), sym read.1, is)
 
+pub has_dent : (dir : ℕ) (name : List ℕ) (bytes : List ℕ) (row : DentRow) → dent_of bytes ≡ Ok row → HasNoValue (keys.Dent dir name) bytes → ⊥
+unfolding spelled_value
+has_dent dir name bytes row e none = let read = dents.exact bytes row e in none (DentValue row) (refl, read.0) (sym read.1)
+
 pub no_gc : (id : ℕ) (bytes : List ℕ) (place : ℕ) → gc_of bytes ≡ Err place → HasNoValue (keys.Gc id) bytes
 unfolding spelled_value
 no_gc id bytes place e (GcValue row) is same = gcs.refused bytes place row e is.1 same
@@ -53,6 +62,10 @@ no_gc id bytes place e v is same = let form = is.0 in absurd (cc)
 pub puts_gc : (id : ℕ) (S U : TypedRows) (bytes : List ℕ) (row : GcRow) → gc_of bytes ≡ Ok row → U ≡ write S (keys.Gc id) (Some (GcValue row)) → Puts S U (keys.Gc id) bytes
 unfolding spelled_value
 puts_gc id S U bytes row e is = let read = gcs.exact bytes row e in (GcValue row, (refl, read.0), sym read.1, is)
+
+pub has_gc : (id : ℕ) (bytes : List ℕ) (row : GcRow) → gc_of bytes ≡ Ok row → HasNoValue (keys.Gc id) bytes → ⊥
+unfolding spelled_value
+has_gc id bytes row e none = let read = gcs.exact bytes row e in none (GcValue row) (refl, read.0) (sym read.1)
 
 pub no_kept : (client : ClientId) (bytes : List ℕ) (place : ℕ) → kept_of bytes ≡ Err place → HasNoValue (keys.Idem client) bytes
 unfolding spelled_value
@@ -80,6 +93,10 @@ no_session inode client number bytes place e v is same = let form = is.0 in absu
 pub puts_session : (inode : ℕ) (client : ClientId) (number : ℕ) (S U : TypedRows) (bytes : List ℕ) (row : SessionRow) → session_of bytes ≡ Ok row → U ≡ write S (keys.Session inode client number) (Some (SessionValue row.stamp)) → Puts S U (keys.Session inode client number) bytes
 unfolding spelled_value
 puts_session inode client number S U bytes row e is = let read = sessions.exact bytes row e in (SessionValue row.stamp, (refl, read.0), sym read.1, is)
+
+pub has_session : (inode : ℕ) (client : ClientId) (number : ℕ) (bytes : List ℕ) (row : SessionRow) → session_of bytes ≡ Ok row → HasNoValue (keys.Session inode client number) bytes → ⊥
+unfolding spelled_value
+has_session inode client number bytes row e none = let read = sessions.exact bytes row e in none (SessionValue row.stamp) (refl, read.0) (sym read.1)
 
 second : (a b : Bool) → IsTrue (a && b) → b ≡ true
 second a b h = (and_true a b h).1

@@ -3,6 +3,7 @@ use Rattle.std.specs.Prelude.{◌≡◌, ℕ, List, Some}
 use Rattle.fs_base.specs.declared.row.Row.{Row}
 use Rattle.key_schema.specs.Keys.{IsKeyOf}
 use Rattle.key_schema.specs.declared.key.Key.{Key}
+use Rattle.key_schema.specs.declared.key.Key.TheVariants as keys
 use Rattle.row_tree.specs.Spelling.{IsValueOf}
 use Rattle.row_tree.specs.TypedRows.{TypedRows, write}
 use Rattle.row_tree.specs.Values.{Value, spelled_value}
@@ -22,3 +23,12 @@ PutsRow old new row = (key : Key) × IsKeyOf row.key key × Puts old new key row
 -- no key and value are spelled so
 abbrev pub IsNoRow : Row → Type 0
 IsNoRow row = (key : Key) → IsKeyOf row.key key → HasNoValue key row.value
+
+-- a value of this form is read without memory: an inode's may hold a target, a kept reply any text
+abbrev pub ReadsFreely : Key → Type 0
+ReadsFreely (keys.Alloc server) = Unit {0}
+ReadsFreely (keys.Dent dir name) = Unit {0}
+ReadsFreely (keys.Gc id) = Unit {0}
+ReadsFreely (keys.Idem client) = ⊥
+ReadsFreely (keys.Inode id) = ⊥
+ReadsFreely (keys.Session inode client number) = Unit {0}

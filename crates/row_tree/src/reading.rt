@@ -1,7 +1,7 @@
-ghost use Rattle.std.specs.Prelude.{◌≡◌, Some, IfOk, OnOk, IfErr};
+ghost use Rattle.std.specs.Prelude.{◌≡◌, Some, IfOk, OnOk, IfErr, IsErrOf};
 ghost use Rattle.conflict_sets.specs.Rows.{IsAscending};
 ghost use Rattle.key_schema.specs.declared.key.Key.TheVariants as keys;
-ghost use Rattle.row_tree.specs.Reading.{HasNoValue, IsNoRow, Puts, PutsRow};
+ghost use Rattle.row_tree.specs.Reading.{HasNoValue, IsNoRow, Puts, PutsRow, ReadsFreely};
 ghost use Rattle.row_tree.specs.Spelling.{Spells};
 ghost use Rattle.row_tree.specs.TypedRows as typed_rows;
 ghost use Rattle.row_tree.specs.TypedRows.{no_rows};
@@ -34,6 +34,7 @@ impl TypedRows {
     fn put_alloc(&mut self, alloc: Global, server: u8, value: &[u8]) -> Result<(), TreeError>
         ensures ok { OnOk result (Puts self.old self.new (keys.Alloc server) value.now) }
         ensures bad { IfErr result (λ e. e ≡ errors.BadRows → HasNoValue (keys.Alloc server) value.now) }
+        ensures memory { HasNoValue (keys.Alloc server) value.now → IsErrOf result errors.BadRows }
     {
         match AllocRow::read(alloc, value) {
             Ok(row) => {
@@ -55,6 +56,7 @@ impl TypedRows {
     ) -> Result<(), TreeError>
         ensures ok { OnOk result (Puts self.old self.new (keys.Dent dir name) value.now) }
         ensures bad { IfErr result (λ e. e ≡ errors.BadRows → HasNoValue (keys.Dent dir name) value.now) }
+        ensures memory { HasNoValue (keys.Dent dir name) value.now → IsErrOf result errors.BadRows }
     {
         match DentRow::read(alloc, value) {
             Ok(row) => {
@@ -70,6 +72,7 @@ impl TypedRows {
     fn put_gc(&mut self, alloc: Global, id: InodeId, value: &[u8]) -> Result<(), TreeError>
         ensures ok { OnOk result (Puts self.old self.new (keys.Gc id) value.now) }
         ensures bad { IfErr result (λ e. e ≡ errors.BadRows → HasNoValue (keys.Gc id) value.now) }
+        ensures memory { HasNoValue (keys.Gc id) value.now → IsErrOf result errors.BadRows }
     {
         match GcRow::read(alloc, value) {
             Ok(row) => {
@@ -122,6 +125,7 @@ impl TypedRows {
     ) -> Result<(), TreeError>
         ensures ok { OnOk result (Puts self.old self.new (keys.Session inode client number) value.now) }
         ensures bad { IfErr result (λ e. e ≡ errors.BadRows → HasNoValue (keys.Session inode client number) value.now) }
+        ensures memory { HasNoValue (keys.Session inode client number) value.now → IsErrOf result errors.BadRows }
     {
         match SessionRow::read(alloc, value) {
             Ok(row) => {
@@ -138,6 +142,7 @@ impl TypedRows {
     fn put(&mut self, alloc: Global, key: Key, value: &[u8]) -> Result<(), TreeError>
         ensures ok { OnOk result (Puts self.old self.new key value.now) }
         ensures bad { IfErr result (λ e. e ≡ errors.BadRows → HasNoValue key value.now) }
+        ensures memory { ReadsFreely key → HasNoValue key value.now → IsErrOf result errors.BadRows }
     {
         match key {
             Key::Alloc(server) => self.put_alloc(alloc, server, value),

@@ -1,4 +1,4 @@
-ghost use Rattle.std.specs.Prelude.{◌≡◌, IfOk, IfErr};
+ghost use Rattle.std.specs.Prelude.{◌≡◌, IfOk, IfErr, IsErrOf};
 ghost use Rattle.conflict_sets.specs.Rows.{IsAscending};
 ghost use Rattle.tree_model.specs.Tree as trees;
 ghost use Rattle.row_tree.specs.HasTree.{HasTree};
@@ -36,6 +36,7 @@ pub fn read_tree(alloc: Global, rows: &[Row], config: &Config) -> Result<Tree, T
     ensures ok { IfOk result (λ tree. HasTree config.now rows.now tree.tree) }
     ensures config { IfOk result (λ tree. tree.config ≡ config.now) }
     ensures bad { IfErr result (λ e. e ≡ errors.BadRows → IsAscending rows.now → (T : trees.Tree) → HasTree config.now rows.now T → ⊥) }
+    ensures memory { (IsAscending rows.now → ⊥) → IsErrOf result errors.BadRows }
 {
     if !are_ascending(rows) {
         return Err(TreeError::BadRows);

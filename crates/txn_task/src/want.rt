@@ -1,7 +1,7 @@
-ghost use Rattle.std.specs.Prelude.{◌≡◌, ℕ, Some, None, Result, IfOk};
+ghost use Rattle.std.specs.Prelude.{◌≡◌, ℕ, Some, None, Result, IfOk, IsOk};
 ghost use Rattle.std.specs.FinMap.{get};
 ghost use Rattle.std.specs.Option.{option_map};
-ghost use Rattle.byte_fields.specs.Outcome.{place_of};
+ghost use Rattle.byte_fields.specs.Outcome.{place_of, NeedsNoMemory};
 ghost use Rattle.fs_base.specs.Gives.{Gives};
 ghost use Rattle.key_schema.specs.Keys.{spelled_key};
 ghost use Rattle.key_schema.specs.declared.key.Key.TheVariants as keys;
@@ -37,7 +37,8 @@ fn kept_at<'a>(alloc: Global, txn: &'a Txn, key: &Key) -> Result<Option<Option<&
 
 /// The row, or none where the bytes aren't one.
 pub(crate) fn found<T: Drop>(row: Result<T, RowError>) -> Result<Option<T>, Memory>
-    ensures { IfOk result (λ read. (answer : Result T ℕ) → Gives place_of (λ x. x) row answer → IsReading answer read) }
+    ensures read { IfOk result (λ read. (answer : Result T ℕ) → Gives place_of (λ x. x) row answer → IsReading answer read) }
+    ensures memory { NeedsNoMemory place_of row → IsOk result }
 {
     match row {
         Ok(row) => Ok(Some(row)),

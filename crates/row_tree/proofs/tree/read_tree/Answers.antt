@@ -19,3 +19,15 @@ returns-clause-ascending c = rise c.args.rows.now c.if-not-are_ascending.ensures
 pub returns-clause-ok : goal.returns-clause-ok
 returns-clause-ok c =
     (c.in_ok-typed.typed, c.in_ok-typed.ensures.ok, c.in_ok-is_well_formed.ensures.0 c.if-not-branch.false, sym (ap (λ (t : Served). t.tree) c.in_ok-into_tree.ensures))
+
+pub returns-in_err-typed-clause-memory : goal.returns-in_err-typed-clause-memory
+returns-in_err-typed-clause-memory c = λ falling. absurd (falling (rise c.args.rows.now c.if-not-are_ascending.ensures))
+
+pub returns-in_err-is_well_formed-clause-memory : goal.returns-in_err-is_well_formed-clause-memory
+returns-in_err-is_well_formed-clause-memory c = λ falling. absurd (falling (rise c.args.rows.now c.if-not-are_ascending.ensures))
+
+pub returns-in_err-into_tree-clause-memory : goal.returns-in_err-into_tree-clause-memory
+returns-in_err-into_tree-clause-memory c = λ falling. absurd (falling (rise c.args.rows.now c.if-not-are_ascending.ensures))
+
+pub returns-clause-memory : goal.returns-clause-memory
+returns-clause-memory c = λ falling. absurd (falling (rise c.args.rows.now c.if-not-are_ascending.ensures))
