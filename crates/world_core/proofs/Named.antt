@@ -26,12 +26,13 @@ use Rattle.client_core.specs.declared.plan.Script.{Script}
 use Rattle.run_record.specs.Legal.{EntryAt, IsOnce, journal_rows, tree_at}
 use Rattle.run_record.specs.Receipts.{AreReceipts, Follow, IsOf, IsReceipt, IsSeen, NamesEntry}
 use Rattle.run_record.specs.declared.run.Listed.{Listed}
-use Rattle.world_core.specs.Kept.{AreNamed, AreNamedOr, HasReceipt, IsBegun, IsPast}
-use Rattle.world_core.specs.Sound.{IsSoundJournal}
-use Rattle.world_core.proofs.Conflicts.{rows_ascending}
-use Rattle.world_core.proofs.History.{entry_sound, kept_above, kept_by, rows_tree}
+use Rattle.request_run.specs.Served.{IsBegun}
+use Rattle.world_core.specs.Kept.{AreNamed, AreNamedOr, HasReceipt, IsPast}
+use Rattle.request_run.specs.Sound.{IsSoundJournal}
+use Rattle.request_run.proofs.Conflicts.{rows_ascending}
+use Rattle.request_run.proofs.History.{entry_sound, kept_above, kept_by, rows_tree}
 use Rattle.run_record.specs.Right.{IsNoRefusal}
-use Rattle.world_core.proofs.Replies.{made_reply}
+use Rattle.request_run.proofs.Replies.{made_reply}
 
 -- ---- one receipt more
 

@@ -58,45 +58,6 @@ AreNamed journal client receipts = (place : ℕ) (entry : Entry) → EntryAt jou
 
 -- ---- the request under way
 
--- what was read lies in the footprint, in all well-formed rows that agree with it
-abbrev pub IsCovered : Settings → Request → ReadSet → Type 0
-IsCovered C request reads = (S : TypedRows) → IsWellFormed C S → Agrees S reads → AreTouched (footprint C (tree_of S) request) reads
-
--- so it was of each entry, and the footprint was read whole
-abbrev pub AreCovered : Settings → List Entry → Type 0
-AreCovered C journal = (place : ℕ) (entry : Entry) → EntryAt journal place entry → IsCovered C entry.request entry.reads × HasRead C (λ T. footprint C T entry.request) entry.reads
-
--- an attempt that has begun
-pub record IsBegun (C : Settings) (journal : List Entry) (client : ClientId) (floor : ℕ) (task : TaskView) : Type 0 where
-  pub from : floor ≤ task.snapshot
-  pub within : task.snapshot ≤ length journal
-  pub agrees : bytes.Agrees (journal_rows C journal task.snapshot) task.reads
-  pub covered : IsCovered C task.request task.reads
-  -- the client has made no entry since
-  pub own : (place : ℕ) (entry : Entry) → EntryAt journal place entry → entry.request.client ≡ client → place < task.snapshot
-
--- the version of the last conflict
-abbrev pub last_version : ℕ → List (ℕ × Key) → ℕ
-last_version floor [] = floor
-last_version floor (pair ∷ pairs) = last_version pair.0 pairs
-
-pub record IsTask (C : Settings) (attempts : ℕ) (journal : List Entry) (front : ℕ) (task : TaskView) : Type 0 where
-  pub config : task.config ≡ C
-  pub attempts_are : task.attempts ≡ attempts
-  pub conflicts : AreConflicts C journal task.request front task.conflicts
-  pub last : last_version front task.conflicts ≤ length journal
-  pub begun : task.begun ≡ true → IsBegun C journal task.request.client (last_version front task.conflicts) task
-
--- what the ask that waits for its answer owes
-abbrev pub IsPending : Settings → TaskView → Ask → Type 0
-IsPending C task asks.Begin = (task.waiting ≡ waits.Beginning) × (task.begun ≡ false)
-IsPending C task (asks.Get key) = (task.waiting ≡ waits.Reading (asks.Get key)) × (task.begun ≡ true) × MayAsk C (λ T. footprint C T task.request) task.reads (asks.Get key)
-IsPending C task (asks.Range lo hi limit) = (task.waiting ≡ waits.Reading (asks.Range lo hi limit)) × (task.begun ≡ true) × MayAsk C (λ T. footprint C T task.request) task.reads (asks.Range lo hi limit)
-IsPending C task (asks.Commit entry) =
-    (task.waiting ≡ waits.Committing entry.reply) × (task.begun ≡ true) × (entry.request ≡ task.request) × (entry.reads ≡ task.reads) × IsSoundEntry C entry
-    × HasRead C (λ T. footprint C T entry.request) entry.reads
-IsPending C task ask = ⊥
-
 -- the request of the next operation, before its next answer
 pub record IsUnderWay (C : Settings) (attempts : ℕ) (journal : List Entry) (script : Script) (op : ℕ) (receipts : List Listed) (front : ℕ) (task : TaskView) : Type 0 where
   pub step : Op
