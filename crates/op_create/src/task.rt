@@ -1,11 +1,11 @@
-ghost use Rattle.std.specs.Prelude.{◌≡◌, ◌≤◌, IfOk};
+ghost use Rattle.std.specs.Prelude.{◌≡◌, ◌≤◌, IfOk, OnErr};
 ghost use Rattle.fs_base.specs.Paths.{path_of};
 ghost use Rattle.tree_model.specs.Calls.{effect};
 ghost use Rattle.tree_model.specs.Tree.{Tree};
 ghost use Rattle.path_walk.specs.Faults.{node_fault, part_fault, refusal};
 ghost use Rattle.path_walk.specs.Footprint.{call_areas};
 ghost use Rattle.path_walk.specs.Requests.{IsRequest};
-ghost use Rattle.op_create.specs.Beginning.{IsMade};
+ghost use Rattle.op_create.specs.Beginning.{HasTarget, IsMade};
 ghost use Rattle.op_create.specs.Create.{IsCreateCall, IsReady, areas_of, effect_of};
 
 use fs_base::{Call, Code, Config, Memory, Place, Request, Text};
@@ -36,7 +36,8 @@ fn target_fault(alloc: Global, target: &Text) -> Result<Option<Code>, Memory>
 }
 
 fn part_fault(alloc: Global, part: &NewPart) -> Result<Option<Code>, Memory>
-    ensures { IfOk result (λ fault. fault ≡ part_fault part.now) }
+    ensures fault { IfOk result (λ fault. fault ≡ part_fault part.now) }
+    ensures memory { OnErr result (HasTarget part.now) }
 {
     match part {
         NewPart::Dir => Ok(None),
@@ -47,7 +48,8 @@ fn part_fault(alloc: Global, part: &NewPart) -> Result<Option<Code>, Memory>
 
 /// Why the node can't be made, whatever the tree is.
 fn node_fault(alloc: Global, config: &Config, node: &NewNode) -> Result<Option<Code>, Memory>
-    ensures { IfOk result (λ fault. fault ≡ node_fault config.now node.now) }
+    ensures fault { IfOk result (λ fault. fault ≡ node_fault config.now node.now) }
+    ensures memory { OnErr result (HasTarget node.now.part) }
 {
     match part_fault(alloc, &node.part)? {
         Some(code) => Ok(Some(code)),
