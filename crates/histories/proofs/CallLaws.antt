@@ -1,7 +1,7 @@
 -- The calls that are built owe what each call owes.
 use Rattle.std.proofs.Common.{◌≡◌, ◌⊎◌, inl, inr, ℕ, ◌+◌, ◌<◌, ◌≤◌, Bool, true, false, cond, List, Option, Some, None, Result, Ok, Err, refl, sym, ap, subst, ◌∙◌, arith}
 use Rattle.std.specs.Prelude.{◌==◌, unwrap_or}
-use Rattle.std.specs.FinMap.{get, insert}
+use Rattle.std.specs.FinMap.{get, insert, remove}
 use Rattle.fs_base.specs.Config.{Settings}
 use Rattle.fs_base.specs.Paths.{path_of}
 use Rattle.fs_base.specs.declared.call.Call.{Call}
@@ -14,9 +14,12 @@ use Rattle.fs_base.specs.declared.code.Code.TheVariants as codes
 use Rattle.fs_base.specs.declared.code.Limit.TheVariants.{Inodes}
 use Rattle.fs_base.specs.declared.kind.Kind.TheVariants as kinds
 use Rattle.fs_base.specs.declared.layout.DefaultLayout.{DefaultLayout}
+use Rattle.fs_base.specs.declared.layout.Layout.{Layout}
 use Rattle.fs_base.specs.declared.path.Path.{Path}
 use Rattle.fs_base.specs.declared.reply.Reply.{Reply}
 use Rattle.fs_base.specs.declared.reply.Reply.TheVariants.{Done, Made, Attr}
+use Rattle.tree_model.specs.declared.kept.Doom.{Doom}
+use Rattle.tree_model.specs.declared.kept.Doom.TheVariants.{Waiting, Purged}
 use Rattle.tree_model.specs.declared.new_node.NewNode.{NewNode}
 use Rattle.tree_model.specs.declared.node.Node.{Node}
 use Rattle.tree_model.specs.declared.node.NodePart.{NodePart}
@@ -25,23 +28,29 @@ use Rattle.tree_model.specs.declared.walk.WalkEnd.{WalkEnd}
 use Rattle.tree_model.specs.declared.walk.WalkEnd.TheVariants.{Follow, NoFollow, Parent}
 use Rattle.tree_model.specs.declared.walk.Walked.{Walked}
 use Rattle.tree_model.specs.declared.walk.Walked.TheVariants.{At, AtParent, NoName, Stopped}
-use Rattle.tree_model.specs.Attributes.{changed, attributes_of}
+use Rattle.tree_model.specs.Attributes.{changed, touched, attributes_of}
 use Rattle.tree_model.specs.Calls.{effect_of}
 use Rattle.tree_model.specs.Creating.{id_of, is_layout, part_for, with_child, add_numbered, add_in, add_child, unless_there, make_at, make, symlink, new_dir, new_file, new_link}
 use Rattle.tree_model.specs.Effects.{Effect, Leaves, Makes, Settles, at_length, settled_by, on_path}
 use Rattle.tree_model.specs.Finding.{at_end, found_of, if_there, on_node, list_at, target_of, readlink_at, stat_at, setattr_at}
+use Rattle.tree_model.specs.Linking.{with_link, with_touched, without_dir, without_entry}
 use Rattle.tree_model.specs.Maps.{set}
 use Rattle.tree_model.specs.Tree.{Tree, next_at, node_with}
 use Rattle.tree_model.specs.Walk.{resolve}
+use Rattle.tree_model.proofs.LinkingLaws.{link_is, unlink_is, rmdir_is}
 use Rattle.tree_model.proofs.MapLaws.{ids, get-set_same, get-set_cases}
 use Rattle.histories.specs.Steps.{PartLasts, NodeLasts, IsGivenOut, IsTreeStep, IsLawful}
 use Rattle.histories.proofs.Versions.{node_same, part_same}
 
+-- what is purged was so before
+abbrev pub PurgesNone : Tree → Tree → Type 0
+PurgesNone T V = (id : ℕ) (layout : Layout) (hint : ℕ) → get V.doomed id ≡ Some (Purged layout hint) → get T.doomed id ≡ Some (Purged layout hint)
+
 -- what an effect owes that isn't a purge's
 abbrev pub Owes : Tree → Effect → Type 0
 Owes T (Leaves reply) = Unit {0}
-Owes T (Makes V reply) = IsTreeStep T V × (V.kept ≡ T.kept) × (V.doomed ≡ T.doomed)
-Owes T (Settles V) = (settled : ℕ) → IsTreeStep T (V settled) × ((V settled).kept ≡ T.kept) × ((V settled).doomed ≡ T.doomed)
+Owes T (Makes V reply) = IsTreeStep T V × (V.kept ≡ T.kept) × PurgesNone T V
+Owes T (Settles V) = (settled : ℕ) → IsTreeStep T (V settled) × ((V settled).kept ≡ T.kept) × PurgesNone T (V settled)
 
 owes_at : (T : Tree) (settled : ℕ) (f : Effect) → Owes T f → Owes T (at_length settled f)
 owes_at T settled (Leaves reply) h = h
@@ -89,29 +98,46 @@ owes_readlink T (AtParent id name) = tt
 owes_readlink T (NoName id) = tt
 
 -- a node is changed in its place, and its part stays
-step_changed : (T : Tree) (id : ℕ) (node new : Node) → get T.nodes id ≡ Some node → new.part ≡ node.part → IsTreeStep T (record T { nodes = insert T.nodes id new })
-step_changed T id node new is part =
-    record {
-      next = λ server. omega arith;
-      nodes = λ i. inl (by_cases i (get (insert T.nodes id new) i) refl);
-      purged = λ i layout hint there. inl there;
-    }
+lasts_changed : (T : Tree) (id : ℕ) (node new : Node) → get T.nodes id ≡ Some node → new.part ≡ node.part → (i : ℕ) → NodeLasts (get T.nodes i) (get (insert T.nodes id new) i)
+lasts_changed T id node new is part i = by_cases (get (insert T.nodes id new) i) refl
   where
     lasts : NodeLasts (Some node) (Some new)
     lasts = subst (PartLasts node.part) (sym part) (part_same node.part)
 
-    by_cases : (i : ℕ) (o : Option Node) → get (set T.nodes id (Some new)) i ≡ o → NodeLasts (get T.nodes i) (get (insert T.nodes id new) i)
-    by_cases i o e = elim (get-set_cases ids T.nodes id (Some new) i o e) [
+    by_cases : (o : Option Node) → get (set T.nodes id (Some new)) i ≡ o → NodeLasts (get T.nodes i) (get (insert T.nodes id new) i)
+    by_cases o e = elim (get-set_cases ids T.nodes id (Some new) i o e) [
       | inl here ↦
           subst (λ (p : Option Node). NodeLasts (get T.nodes i) p) (here.1 ∙ sym e)
           (subst (λ j. NodeLasts (get T.nodes j) (Some new)) (sym here.0) (subst (λ (p : Option Node). NodeLasts p (Some new)) (sym is) lasts))
       | inr other ↦ subst (NodeLasts (get T.nodes i)) (other.1 ∙ sym e) (node_same (get T.nodes i))
     ]
 
+-- a node goes, and the others stay
+lasts_removed : (T : Tree) (id i : ℕ) → NodeLasts (get T.nodes i) (get (remove T.nodes id) i)
+lasts_removed T id i = by_cases (get (remove T.nodes id) i) refl
+  where
+    by_cases : (o : Option Node) → get (set T.nodes id None) i ≡ o → NodeLasts (get T.nodes i) (get (remove T.nodes id) i)
+    by_cases o e = elim (get-set_cases ids T.nodes id None i o e) [
+      | inl here ↦ subst (λ (p : Option Node). NodeLasts (get T.nodes i) p) (here.1 ∙ sym e) tt
+      | inr other ↦ subst (NodeLasts (get T.nodes i)) (other.1 ∙ sym e) (node_same (get T.nodes i))
+    ]
+
+-- the same numbers, nodes that last or go, and no more that is purged
+step_with : (T V : Tree) → V.next ≡ T.next → ((id : ℕ) → NodeLasts (get T.nodes id) (get V.nodes id)) → PurgesNone T V → IsTreeStep T V
+step_with T V same lasts purged =
+    record {
+      next = λ server. let alike : next_at V.next server ≡ next_at T.next server = ap (λ m. next_at m server) same in omega arith;
+      nodes = λ id. inl (lasts id);
+      purged = λ id layout hint there. inl (purged id layout hint there);
+    }
+
+step_changed : (T : Tree) (id : ℕ) (node new : Node) → get T.nodes id ≡ Some node → new.part ≡ node.part → IsTreeStep T (record T { nodes = insert T.nodes id new })
+step_changed T id node new is part = step_with T (record T { nodes = insert T.nodes id new }) refl (lasts_changed T id node new is part) (λ i layout hint there. there)
+
 owes_setattr : (T : Tree) (stamp : ℕ) (changes : Changes) (walked : Walked) → Owes T (setattr_at T stamp changes walked)
 owes_setattr T stamp changes walked =
     owes_on_node T walked (λ id node. Makes (record T { nodes = insert T.nodes id (changed changes stamp node) }) Done)
-    (λ id node is. (step_changed T id node (changed changes stamp node) is refl, refl, refl))
+    (λ id node is. (step_changed T id node (changed changes stamp node) is refl, refl, λ i layout hint there. there))
 
 -- ---- making
 
@@ -149,7 +175,7 @@ module _ (T : Tree) (server : ℕ) (known : server < 16) where
 
         by_limit : (b : Bool) → Owes T (cond b (Leaves (Reply.Refused (codes.AtLimit Inodes))) (Makes (with_child T server dir name (node_with made.mode stamp (part_for C made.part (id_of (next_at T.next server) server) layout))) (Made (id_of (next_at T.next server) server))))
         by_limit true = tt
-        by_limit false = (step_child dir name (node_with made.mode stamp (part_for C made.part (id_of (next_at T.next server) server) layout)), refl, refl)
+        by_limit false = (step_child dir name (node_with made.mode stamp (part_for C made.part (id_of (next_at T.next server) server) layout)), refl, λ i layout hint there. there)
 
     owes_in : (dir : ℕ) (name : List ℕ) (part : NodePart) → Owes T (add_in C T server stamp made dir name part)
     owes_in dir name (Dir layout) = owes_numbered dir name (unwrap_or made.layout layout)
@@ -185,6 +211,31 @@ module _ (T : Tree) (server : ℕ) (known : server < 16) where
       (λ path. owes_on_path T (path_of target) (λ leads. make_at C T server stamp (new_link target) (resolve T place.base path Parent))
       (λ leads. owes_make_at C stamp (new_link target) (resolve T place.base path Parent)))
 
+-- ---- links and removals
+
+-- a file that waits isn't purged
+waits_unpurged : (T : Tree) (id i : ℕ) (layout : Layout) (hint : ℕ) → get (insert T.doomed id Waiting) i ≡ Some (Purged layout hint) → get T.doomed i ≡ Some (Purged layout hint)
+waits_unpurged T id i layout hint there = elim (get-set_cases ids T.doomed id (Some Waiting) i (Some (Purged layout hint)) there) [
+  | inl here ↦ let clash : ◌≡◌ {A = Option Doom} (Some Waiting) (Some (Purged layout hint)) = here.1 in absurd (cc)
+  | inr other ↦ other.1
+]
+
+module _ (T : Tree) (stamp : ℕ) where
+  owes_joined : (dir : ℕ) (name : List ℕ) (id : ℕ) (node : Node) → get T.nodes id ≡ Some node → Owes T (Makes (with_link T stamp dir name id node) Done)
+  owes_joined dir name id node is = (step_with T (with_link T stamp dir name id node) refl (lasts_changed T id node (touched stamp node) is refl) (λ i layout hint there. there), refl, λ i layout hint there. there)
+
+  owes_gone : (dir : ℕ) (name : List ℕ) (id : ℕ) → Owes T (Makes (without_dir T dir name id) Done)
+  owes_gone dir name id = (step_with T (without_dir T dir name id) refl (lasts_removed T id) (λ i layout hint there. there), refl, λ i layout hint there. there)
+
+  owes_left : (dir : ℕ) (name : List ℕ) (id : ℕ) (node : Node) → get T.nodes id ≡ Some node → Owes T (Makes (with_touched (without_entry T dir name) stamp id node) Done)
+  owes_left dir name id node is =
+      (step_with T (with_touched (without_entry T dir name) stamp id node) refl (lasts_changed T id node (touched stamp node) is refl) (λ i layout hint there. there), refl, λ i layout hint there. there)
+
+  owes_waiting : (dir : ℕ) (name : List ℕ) (id : ℕ) (node : Node) → get T.nodes id ≡ Some node
+      → Owes T (Makes (record (with_touched (without_entry T dir name) stamp id node) { doomed = insert T.doomed id Waiting }) Done)
+  owes_waiting dir name id node is =
+      (step_with T (record (with_touched (without_entry T dir name) stamp id node) { doomed = insert T.doomed id Waiting }) refl (lasts_changed T id node (touched stamp node) is refl) (waits_unpurged T id), refl, waits_unpurged T id)
+
 -- ---- all of them
 
 pub owes_call : (C : Settings) (T : Tree) (q : Request) (call : Call) → q.server < 16 → Owes T (effect_of C T q call)
@@ -196,15 +247,18 @@ owes_call C T q (calls.Mkdir place mode layout) known = owes_make T q.server kno
 owes_call C T q (calls.Create place mode layout) known = owes_make T q.server known C q.stamp (new_file mode layout) place
 owes_call C T q (calls.Symlink place target) known = owes_symlink T q.server known C q.stamp place target
 owes_call C T q (calls.Setattr place changes) known = owes_at_end T place Follow (setattr_at T q.stamp changes) (owes_setattr T q.stamp changes)
+owes_call C T q (calls.Link from to) known = link_is (Owes T) T q.stamp (λ code. tt) (owes_joined T q.stamp) from to
+owes_call C T q (calls.Unlink place) known = unlink_is (Owes T) T q.stamp (λ code. tt) (owes_gone T q.stamp) (owes_left T q.stamp) (owes_waiting T q.stamp) place
+owes_call C T q (calls.Rmdir place) known = rmdir_is (Owes T) T q.stamp (λ code. tt) (owes_gone T q.stamp) place
 owes_call C T q _ known = tt
 
 pub lawful : (C : Settings) → C.servers ≤ 16 → IsLawful C
 lawful C few T V q reply known is =
-    let owed : IsTreeStep T V × (V.kept ≡ T.kept) × (V.doomed ≡ T.doomed) = subst (Owes T) is (owes_at T (settled_by reply) (effect_of C T q q.call) (owes_call C T q q.call (omega arith))) in
+    let owed : IsTreeStep T V × (V.kept ≡ T.kept) × PurgesNone T V = subst (Owes T) is (owes_at T (settled_by reply) (effect_of C T q q.call) (owes_call C T q q.call (omega arith))) in
     record {
       step = owed.0;
       kept = owed.1;
-      purges = λ id layout hint there. inl (ap (λ m. get m id) (sym owed.2) ∙ there);
+      purges = λ id layout hint there. inl (owed.2 id layout hint there);
       purge = λ id call. absurd (none id call);
       done = λ id call. absurd (none id call);
     }

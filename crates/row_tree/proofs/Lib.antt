@@ -5,7 +5,9 @@ pub mod Counts
 pub mod Decided
 pub mod Decides
 pub mod Decoded
+pub mod Detaching
 pub mod DirRanges
+pub mod Joining
 pub mod Making
 pub mod NewRowLaws
 pub mod OneTree
@@ -18,6 +20,8 @@ pub mod Prefixes
 pub mod Putting
 pub mod Ranges
 pub mod Refusals
+pub mod Relinking
+pub mod Removing
 pub mod RowByRow
 pub mod SpellingLaws
 pub mod Telling

@@ -85,7 +85,7 @@ module _ (C : Settings) (S : TypedRows) (good : IsWellFormed C S) where
 saturated_within : (n : ℕ) → n < 2 ^ 32 → saturated n ≡ n
 saturated_within n small = ap (λ b. cond b n 4294967295) (lt-ltb n 4294967296 small)
 
-count_told : (S : TypedRows) (id : ℕ) → count_to (tree_of S) id ≡ entries_to S id
+pub count_told : (S : TypedRows) (id : ℕ) → count_to (tree_of S) id ≡ entries_to S id
 count_told S id = count-map_values dent_cmp (λ (e : DentRow). e.inode) (λ (x : ℕ). x == id) S.dents
 
 module _ (C : Settings) (S : TypedRows) (good : IsWellFormed C S) (id : ℕ) (row : InodeRow) (is : get S.inodes id ≡ Some row) where
@@ -98,7 +98,7 @@ module _ (C : Settings) (S : TypedRows) (good : IsWellFormed C S) (id : ℕ) (ro
   ]
 
   -- what is no directory isn't the root, and counts its entries
-  other_links : kind_of row.part ≢ kinds.Dir → row.links ≡ entries_to S id
+  pub other_links : kind_of row.part ≢ kinds.Dir → row.links ≡ entries_to S id
   other_links other = elim (decide ids id 0) [
     | inl root ↦
         let has = good.root in

@@ -1,13 +1,18 @@
 -- The changes of rows that the calls are made of.
-use Rattle.std.specs.Prelude.{◌≡◌, ℕ, ◌+◌, ◌^◌, ◌<◌, List, Some, None}
-use Rattle.std.specs.FinMap.{get, insert}
+use Rattle.std.specs.Prelude.{◌≡◌, ◌≢◌, ◌⊎◌, ℕ, ◌+◌, ◌^◌, ◌<◌, ◌≤◌, List, Option, Some, None}
+use Rattle.std.specs.Ordering.{nat_cmp}
+use Rattle.std.specs.FinMap.{FinMap, get, insert, remove}
 use Rattle.fs_base.specs.Config.{Settings}
 use Rattle.fs_base.specs.declared.kind.Kind.TheVariants as kinds
 use Rattle.inode_record.specs.declared.inode.InodeRow.{InodeRow}
+use Rattle.row_records.specs.declared.rows.DentRow.{DentRow}
+use Rattle.row_records.specs.declared.rows.GcRow.{GcRow}
+use Rattle.row_records.specs.declared.rows.GcRow.TheVariants.{Waiting}
 use Rattle.row_records.specs.declared.rows.KeptRow.{KeptRow}
+use Rattle.tree_model.specs.Maps.{set}
 use Rattle.tree_model.specs.Tree.{next_at}
 use Rattle.tree_model.specs.Creating.{id_of}
-use Rattle.row_tree.specs.TypedRows.{TypedRows, kind_of, parent_of}
+use Rattle.row_tree.specs.TypedRows.{TypedRows, kind_of, parent_of, entries_to}
 use Rattle.row_tree.specs.WellFormed.{HasKind, FitsConfig}
 
 -- ---- a node added
@@ -52,3 +57,42 @@ pub record MayChange (C : Settings) (S : TypedRows) (id : ℕ) (old row : InodeR
 
 abbrev pub with_kept : TypedRows → ℕ → KeptRow → TypedRows
 with_kept S client row = record S { kept = insert S.kept client row }
+
+-- ---- an entry of a node added or taken away
+
+-- 1 for an entry
+abbrev pub count_if : Option DentRow → ℕ
+count_if None = 0
+count_if (Some e) = 1
+
+-- the row with another count of entries, and the stamp as its change time
+abbrev pub recounted : ℕ → ℕ → InodeRow → InodeRow
+recounted stamp links row = record row { links = links; ctime = stamp }
+
+-- another entry of a node, or none, at a name; the node's row, and the rows of deletion
+abbrev pub with_entry : TypedRows → ℕ → List ℕ → Option DentRow → ℕ → InodeRow → FinMap nat_cmp GcRow → TypedRows
+with_entry S dir name entry id row doomed = record S { inodes = insert S.inodes id row; dents = set S.dents (dir, name) entry; doomed = doomed }
+
+-- what stood at the name and what stands there lead to the node, no directory, whose row counts one as the other;
+-- a file that has lost its last entry waits
+pub record MayRelink (S : TypedRows) (dir : ℕ) (name : List ℕ) (entry : Option DentRow) (id : ℕ) (old row : InodeRow) (doomed : FinMap nat_cmp GcRow) : Type 0 where
+  pub there : get S.inodes id ≡ Some old
+  pub linked : 1 ≤ old.links
+  pub no_dir : kind_of old.part ≢ kinds.Dir
+  pub part : row.part ≡ old.part
+  pub was : (e : DentRow) → get S.dents (dir, name) ≡ Some e → e.inode ≡ id
+  pub is : (e : DentRow) → entry ≡ Some e → (e.inode ≡ id) × (e.kind ≡ kind_of old.part) × HasKind S dir kinds.Dir
+  pub count : count_if (get S.dents (dir, name)) + row.links ≡ old.links + count_if entry
+  pub fate : ((1 ≤ row.links) × (doomed ≡ S.doomed)) ⊎ ((row.links ≡ 0) × (kind_of old.part ≡ kinds.File) × (doomed ≡ insert S.doomed id Waiting))
+
+-- ---- a node taken away with its only entry
+
+-- no file, and no entry lies in it
+pub record MayRemove (S : TypedRows) (dir : ℕ) (name : List ℕ) (e : DentRow) : Type 0 where
+  pub entry : get S.dents (dir, name) ≡ Some e
+  pub only : entries_to S e.inode ≡ 1
+  pub no_file : e.kind ≢ kinds.File
+  pub empty : (other : List ℕ) → get S.dents (e.inode, other) ≡ None
+
+abbrev pub without_node : TypedRows → ℕ → List ℕ → DentRow → TypedRows
+without_node S dir name e = record S { inodes = remove S.inodes e.inode; dents = remove S.dents (dir, name) }

@@ -12,9 +12,10 @@ use Rattle.tree_model.specs.declared.kept.KeptReply.{KeptReply}
 use Rattle.tree_model.specs.Creating.{make, symlink, new_dir, new_file}
 use Rattle.tree_model.specs.Effects.{Effect, Leaves, Makes, Settles}
 use Rattle.tree_model.specs.Finding.{lookup, stat, list, readlink, setattr}
+use Rattle.tree_model.specs.Linking.{link, unlink, rmdir}
 use Rattle.tree_model.specs.Tree.{Tree}
 
--- the calls whose effect is told here
+-- the calls that servers take
 abbrev pub is_built : Call → Bool
 is_built (calls.Lookup place) = true
 is_built (calls.Stat place) = true
@@ -25,6 +26,13 @@ is_built (calls.Create place mode layout) = true
 is_built (calls.Symlink place target) = true
 is_built (calls.Setattr place changes) = true
 is_built _ = false
+
+-- the calls whose effect is told here: those, and the three that no operation does yet
+abbrev pub is_told : Call → Bool
+is_told (calls.Link from to) = true
+is_told (calls.Unlink place) = true
+is_told (calls.Rmdir place) = true
+is_told call = is_built call
 
 -- a query changes nothing, and its reply isn't kept
 abbrev pub is_query : Call → Bool
@@ -43,7 +51,7 @@ settles (calls.Fsync session) = true
 settles (calls.Close session) = true
 settles _ = false
 
--- the last line speaks of no call that is built
+-- the last line speaks of no call that is told
 abbrev pub effect_of : Settings → Tree → Request → Call → Effect
 effect_of C T q (calls.Lookup place) = lookup T place
 effect_of C T q (calls.Stat place) = stat T place
@@ -53,6 +61,9 @@ effect_of C T q (calls.Mkdir place mode layout) = make C T q.server q.stamp (new
 effect_of C T q (calls.Create place mode layout) = make C T q.server q.stamp (new_file mode layout) place
 effect_of C T q (calls.Symlink place target) = symlink C T q.server q.stamp place target
 effect_of C T q (calls.Setattr place changes) = setattr T q.stamp place changes
+effect_of C T q (calls.Link from to) = link T q.stamp from to
+effect_of C T q (calls.Unlink place) = unlink T q.stamp place
+effect_of C T q (calls.Rmdir place) = rmdir T place
 effect_of C T q _ = Leaves Done
 
 abbrev pub effect : Settings → Tree → Request → Effect

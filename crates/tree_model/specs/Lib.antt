@@ -4,6 +4,7 @@ pub mod Calls
 pub mod Creating
 pub mod Effects
 pub mod Finding
+pub mod Linking
 pub mod Making
 pub mod Maps
 pub mod Tree

@@ -1,16 +1,23 @@
 -- An update that is planned, and then done.
-use Rattle.std.specs.Prelude.{◌≡◌, ℕ, ◌+◌, ◌<◌, ◌==◌, nat_lt, if◌then◌else◌, Option, Some, None, IsSome}
+use Rattle.std.specs.Prelude.{◌≡◌, ℕ, ◌+◌, ◌<◌, ◌==◌, nat_lt, Bool, true, false, if◌then◌else◌, List, Option, Some, None, IsSome}
 use Rattle.std.specs.Option.{option_map}
-use Rattle.std.specs.FinMap.{get, insert}
+use Rattle.std.specs.Ordering.{nat_cmp}
+use Rattle.std.specs.FinMap.{FinMap, get, insert, remove}
 use Rattle.fs_base.specs.declared.call.Changes.{Changes}
 use Rattle.fs_base.specs.declared.code.Code.TheVariants.{Stale}
 use Rattle.fs_base.specs.declared.reply.Reply.{Reply}
 use Rattle.fs_base.specs.declared.reply.Reply.TheVariants.{Done, Made, Refused}
+use Rattle.tree_model.specs.declared.kept.Doom.TheVariants.{Waiting}
 use Rattle.tree_model.specs.declared.kept.KeptReply.{KeptReply}
+use Rattle.tree_model.specs.declared.node.Node.{Node}
+use Rattle.tree_model.specs.declared.node.NodePart.{NodePart}
+use Rattle.tree_model.specs.declared.node.NodePart.TheVariants.{Dir, File, Link}
 use Rattle.tree_model.specs.declared.plan.Child.{Child}
+use Rattle.tree_model.specs.declared.plan.Fate.{Fate}
+use Rattle.tree_model.specs.declared.plan.Fate.TheVariants.{Stays, Waits, Goes}
 use Rattle.tree_model.specs.declared.plan.Plan.{Plan}
-use Rattle.tree_model.specs.declared.plan.Plan.TheVariants.{Refuse, Add, Change}
-use Rattle.tree_model.specs.Attributes.{changed}
+use Rattle.tree_model.specs.declared.plan.Plan.TheVariants.{Refuse, Add, Change, Join, Detach}
+use Rattle.tree_model.specs.Attributes.{changed, touched}
 use Rattle.tree_model.specs.Effects.{Effect, Makes, refuses}
 use Rattle.tree_model.specs.Maps.{set}
 use Rattle.tree_model.specs.Tree.{Tree}
@@ -28,11 +35,37 @@ added T server child =
 abbrev pub altered : Tree → ℕ → Changes → ℕ → Tree
 altered T id changes stamp = record T { nodes = set T.nodes id (option_map (changed changes stamp) (get T.nodes id)) }
 
+-- the nodes with the stamp as the change time of an id's, where there is one
+abbrev pub touched_at : Tree → ℕ → ℕ → FinMap nat_cmp Node
+touched_at T stamp id = set T.nodes id (option_map (touched stamp) (get T.nodes id))
+
+-- the tree with a further entry of the node of an id
+abbrev pub linked : Tree → ℕ → ℕ × List ℕ → ℕ → Tree
+linked T stamp key id = record T { nodes = touched_at T stamp id; entries = insert T.entries key id }
+
+-- what becomes of a node that loses an entry, by whether it is its last
+abbrev pub fate_of : Bool → NodePart → Fate
+fate_of false part = Stays
+fate_of true (Dir layout) = Goes
+fate_of true (File length truncs layout hint) = Waits
+fate_of true (Link target) = Goes
+
+-- the tree where this has become of the node
+abbrev pub fared : Tree → ℕ → ℕ → Fate → Tree
+fared T stamp id Stays = record T { nodes = touched_at T stamp id }
+fared T stamp id Waits = record T { nodes = touched_at T stamp id; doomed = insert T.doomed id Waiting }
+fared T stamp id Goes = record T { nodes = remove T.nodes id }
+
+abbrev pub detached : Tree → ℕ → ℕ × List ℕ → ℕ → Fate → Tree
+detached T stamp key id fate = fared (record T { entries = remove T.entries key }) stamp id fate
+
 -- the plan is what the call does
 abbrev pub IsPlan : Tree → ℕ → ℕ → Effect → Plan → Type 0
 IsPlan T server stamp effect (Refuse code) = effect ≡ refuses code
 IsPlan T server stamp effect (Add child) = (effect ≡ Makes (added T server child) (Made child.id)) × (child.number < 4294967295)
 IsPlan T server stamp effect (Change id changes) = IsSome (get T.nodes id) × (effect ≡ Makes (altered T id changes stamp) Done)
+IsPlan T server stamp effect (Join key id) = IsSome (get T.nodes id) × (effect ≡ Makes (linked T stamp key id) Done)
+IsPlan T server stamp effect (Detach key id fate) = IsSome (get T.nodes id) × (effect ≡ Makes (detached T stamp key id fate) Done)
 
 -- the reply to a number that came before, or is older than one that did
 abbrev pub earlier_reply : ℕ → Option KeptReply → Option Reply

@@ -2,7 +2,7 @@ ghost use Rattle.std.specs.Prelude.{◌≡◌, ◌<◌, ◌≤◌, Bool, false, 
 ghost use Rattle.std.specs.FinMap.{get};
 ghost use Rattle.std.specs.Option.{is_some};
 ghost use Rattle.tree_model.specs.Effects.{Leaves};
-ghost use Rattle.tree_model.specs.Calls.{apply, after_kept, effect, is_built, is_query, settle, settles};
+ghost use Rattle.tree_model.specs.Calls.{apply, after_kept, effect, is_built, is_query, is_told, settle, settles};
 ghost use Rattle.tree_model.specs.Making.{IsPlan};
 
 use crate::new_node::NewNode;
@@ -11,7 +11,7 @@ use crate::tree::Tree;
 use fs_base::{Call, Memory, Reply, Request};
 use std::alloc::Global;
 
-/// Whether the tree knows what this call does. The other calls aren't built yet.
+/// Whether servers take this call. The other calls aren't built yet.
 pub fn is_built(call: &Call) -> bool
     ensures { result ≡ is_built call.now }
 {
@@ -26,6 +26,18 @@ pub fn is_built(call: &Call) -> bool
             | Call::Symlink { .. }
             | Call::Setattr { .. }
     )
+}
+
+/// Whether the tree knows what this call does.
+pub fn is_told(call: &Call) -> bool
+    ensures { result ≡ is_told call.now }
+{
+    match call {
+        Call::Link { .. } => true,
+        Call::Unlink(_) => true,
+        Call::Rmdir(_) => true,
+        _ => is_built(call),
+    }
 }
 
 /// Whether a call changes nothing, whatever the tree. The replies to such calls aren't kept.
@@ -54,7 +66,7 @@ pub fn settles(call: &Call) -> bool
 impl Tree {
     /// The reply to a query.
     fn answer(&self, alloc: Global, request: &Request) -> Result<Reply, Memory>
-        requires built { IsTrue (is_built request.now.call) }
+        requires told { IsTrue (is_told request.now.call) }
         requires query { is_query request.now.call ≡ true }
         ensures { IfOk result (λ reply. effect self.now.config self.now.tree request.now ≡ Leaves reply) }
     {
@@ -70,7 +82,7 @@ impl Tree {
     /// What an update is to do.
     fn plan(&self, alloc: Global, request: &Request) -> Result<Plan, Memory>
         requires server { request.now.server < 16 }
-        requires built { IsTrue (is_built request.now.call) }
+        requires told { IsTrue (is_told request.now.call) }
         requires update { is_query request.now.call ≡ false }
         ensures { IfOk result (IsPlan self.now.tree request.now.server request.now.stamp (effect self.now.config self.now.tree request.now)) }
     {
@@ -87,6 +99,9 @@ impl Tree {
             } => self.plan_make(alloc, request, place, NewNode::file(*mode, *layout)),
             Call::Symlink { place, target } => self.plan_symlink(alloc, request, place, target),
             Call::Setattr { place, changes } => self.plan_setattr(alloc, request, place, *changes),
+            Call::Link { from, to } => self.plan_link(alloc, request, from, to),
+            Call::Unlink(place) => self.plan_unlink(alloc, request, place),
+            Call::Rmdir(place) => self.plan_rmdir(alloc, request, place),
             _ => unreachable!(),
         }
     }
@@ -99,7 +114,7 @@ impl Tree {
         settled: Option<u64>,
     ) -> Result<Reply, Memory>
         requires server { request.now.server < 16 }
-        requires built { IsTrue (is_built request.now.call) }
+        requires told { IsTrue (is_told request.now.call) }
         requires update { is_query request.now.call ≡ false }
         ensures ok { IfOk result (λ reply. settle self.old.tree request.now (unwrap_or settled 0) (effect self.old.config self.old.tree request.now) ≡ (self.new.tree, reply)) }
         ensures config { self.new.config ≡ self.old.config }
@@ -109,6 +124,8 @@ impl Tree {
             Plan::Refuse(code) => Ok(Reply::Refused(code)),
             Plan::Add(child) => self.add_kept(request, child),
             Plan::Change(id, changes) => self.change_kept(request, id, changes),
+            Plan::Join(key, id) => self.join_kept(request, key, id),
+            Plan::Detach(key, id, fate) => self.detach_kept(request, key, id, fate),
         }
     }
 
@@ -120,7 +137,7 @@ impl Tree {
         settled: Option<u64>,
     ) -> Result<Reply, Memory>
         requires server { request.now.server < 16 }
-        requires built { IsTrue (is_built request.now.call) }
+        requires told { IsTrue (is_told request.now.call) }
         requires update { is_query request.now.call ≡ false }
         ensures ok { IfOk result (λ reply. after_kept self.old.config self.old.tree request.now (unwrap_or settled 0) (get self.old.tree.kept request.now.client.0) ≡ (self.new.tree, reply)) }
         ensures config { self.new.config ≡ self.old.config }
@@ -143,7 +160,7 @@ impl Tree {
         settled: Option<u64>,
     ) -> Result<Reply, Memory>
         requires server { request.now.server < 16 }
-        requires built { IsTrue (is_built request.now.call) }
+        requires told { IsTrue (is_told request.now.call) }
         requires given { is_some settled ≡ settles request.now.call }
         requires bounded { IfSome settled (λ length. length ≤ 1099511627776) }
         ensures ok { IfOk result (λ reply. apply self.old.config self.old.tree request.now (unwrap_or settled 0) ≡ (self.new.tree, reply)) }

@@ -1,5 +1,5 @@
 ghost use Rattle.std.specs.Prelude.{◌≡◌};
-ghost use Rattle.tree_model.specs.Attributes.{saturated, links_of, attributes_of};
+ghost use Rattle.tree_model.specs.Attributes.{count_to, saturated, links_of, attributes_of};
 
 use crate::node::{Node, NodePart};
 use crate::tree::Tree;
@@ -13,14 +13,21 @@ fn saturated(count: usize) -> u32
 }
 
 impl Tree {
+    /// How many entries lead to an inode.
+    pub(crate) fn count_to(&self, id: InodeId) -> usize
+        ensures { result ≡ count_to self.now.tree id }
+    {
+        self.entries.count_to(id)
+    }
+
     /// 1 for a directory, else how many entries lead to it.
     fn links(&self, id: InodeId, part: &NodePart) -> u32
         ensures { result ≡ links_of self.now.tree id part.now }
     {
         match part {
             NodePart::Dir { .. } => 1,
-            NodePart::File { .. } => saturated(self.entries.count_to(id)),
-            NodePart::Link { .. } => saturated(self.entries.count_to(id)),
+            NodePart::File { .. } => saturated(self.count_to(id)),
+            NodePart::Link { .. } => saturated(self.count_to(id)),
         }
     }
 

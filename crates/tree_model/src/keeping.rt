@@ -2,13 +2,13 @@ ghost use Rattle.std.specs.Prelude.{◌≡◌, ◌<◌, IsSome, IfOk, OnOk, OnEr
 ghost use Rattle.std.specs.FinMap.{get};
 ghost use Rattle.fs_base.specs.declared.reply.Reply.TheVariants.{Done, Made};
 ghost use Rattle.tree_model.specs.Calls.{keeps};
-ghost use Rattle.tree_model.specs.Making.{added, altered, earlier_reply};
+ghost use Rattle.tree_model.specs.Making.{added, altered, detached, earlier_reply, fared, linked};
 
-use crate::kept::KeptReply;
-use crate::plan::Child;
-use crate::setattr::change_node;
+use crate::kept::{Doom, KeptReply};
+use crate::plan::{Child, Fate};
+use crate::setattr::{change_node, touch_node};
 use crate::tree::Tree;
-use fs_base::{Changes, Code, Memory, Reply, Request};
+use fs_base::{Changes, Code, InodeId, Memory, Name, Reply, Request};
 use std::alloc::Global;
 
 impl Tree {
@@ -109,5 +109,98 @@ impl Tree {
         self.kept.insert(request.client.0, kept)?;
         change_node(&mut self.nodes, id, changes, request.stamp);
         Ok(Reply::Done)
+    }
+
+    /// Keeps the reply `Done`, and gives back what was kept before.
+    fn keep_done(&mut self, request: &Request) -> Result<Option<KeptReply>, Memory>
+        ensures before { IfOk result (λ before. before ≡ get self.old.tree.kept request.now.client.0) }
+        ensures ok { OnOk result (self.new.tree ≡ keeps self.old.tree request.now Done) }
+        ensures config { self.new.config ≡ self.old.config }
+        ensures err { OnErr result (self.new ≡ self.old) }
+    {
+        let kept = KeptReply {
+            number: request.number,
+            reply: Reply::Done,
+        };
+        self.kept.insert(request.client.0, kept)
+    }
+
+    /// Adds an entry of a node and puts the reply in, all or nothing.
+    #[tactic(auto, using(crate::proofs::Undo::there_by_id, crate::proofs::Undo::undone_by_id))]
+    pub(crate) fn join_kept(
+        &mut self,
+        request: &Request,
+        key: (u64, Name),
+        id: InodeId,
+    ) -> Result<Reply, Memory>
+        requires { IsSome (get self.old.tree.nodes id) }
+        ensures ok { OnOk result (self.new.tree ≡ keeps (linked self.old.tree request.now.stamp key id) request.now Done) }
+        ensures reply { IfOk result (λ reply. reply ≡ Done) }
+        ensures config { self.new.config ≡ self.old.config }
+        ensures err { OnErr result (self.new ≡ self.old) }
+    {
+        let before = self.keep_done(request)?;
+        match self.entries.insert(key, id) {
+            Ok(_) => {
+                touch_node(&mut self.nodes, id.get(), request.stamp);
+                Ok(Reply::Done)
+            }
+            Err(e) => {
+                self.kept.put_back(request.client.0, before);
+                Err(e)
+            }
+        }
+    }
+
+    /// What becomes of a node that loses an entry, all or nothing. Only for a file that waits it takes memory.
+    fn fare(&mut self, id: InodeId, fate: Fate, stamp: u64) -> Result<(), Memory>
+        requires { IsSome (get self.old.tree.nodes id) }
+        ensures ok { OnOk result (self.new.tree ≡ fared self.old.tree stamp id fate) }
+        ensures config { self.new.config ≡ self.old.config }
+        ensures err { OnErr result (self.new ≡ self.old) }
+    {
+        match fate {
+            Fate::Stays => {
+                touch_node(&mut self.nodes, id.get(), stamp);
+                Ok(())
+            }
+            Fate::Waits => {
+                self.doomed.insert(id.get(), Doom::Waiting)?;
+                touch_node(&mut self.nodes, id.get(), stamp);
+                Ok(())
+            }
+            Fate::Goes => {
+                self.nodes.remove(id.get());
+                Ok(())
+            }
+        }
+    }
+
+    /// Takes an entry away and puts the reply in, all or nothing.
+    #[tactic(auto, using(crate::proofs::Undo::there_by_id, crate::proofs::Undo::undone_by_id))]
+    pub(crate) fn detach_kept(
+        &mut self,
+        request: &Request,
+        key: (u64, Name),
+        id: InodeId,
+        fate: Fate,
+    ) -> Result<Reply, Memory>
+        requires { IsSome (get self.old.tree.nodes id) }
+        ensures ok { OnOk result (self.new.tree ≡ keeps (detached self.old.tree request.now.stamp key id fate) request.now Done) }
+        ensures reply { IfOk result (λ reply. reply ≡ Done) }
+        ensures config { self.new.config ≡ self.old.config }
+        ensures err { OnErr result (self.new ≡ self.old) }
+    {
+        let before = self.keep_done(request)?;
+        match self.fare(id, fate, request.stamp) {
+            Ok(()) => {
+                self.entries.remove(&key);
+                Ok(Reply::Done)
+            }
+            Err(e) => {
+                self.kept.put_back(request.client.0, before);
+                Err(e)
+            }
+        }
     }
 }

@@ -6,6 +6,7 @@ mod attributes;
 mod finding;
 mod keeping;
 mod kept;
+mod linking;
 mod make;
 mod maps;
 mod names;
@@ -17,7 +18,7 @@ mod tree;
 mod walk;
 mod walking;
 
-pub use apply::{is_built, is_query, settles};
+pub use apply::{is_built, is_query, is_told, settles};
 pub use kept::{Doom, KeptReply};
 pub use make::is_layout;
 pub use maps::{ByClient, ByName, ByNumber, BySession};

@@ -1,5 +1,5 @@
 ghost use Rattle.std.specs.Prelude.{◌≡◌};
-ghost use Rattle.tree_model.specs.Attributes.{kind_of_part, length_of, changed};
+ghost use Rattle.tree_model.specs.Attributes.{kind_of_part, length_of, changed, touched};
 ghost use Rattle.tree_model.specs.Tree.{root_of, node_with};
 
 use fs_base::{Changes, Config, DefaultLayout, Kind, Layout, Text};
@@ -87,6 +87,16 @@ impl Node {
             mtime: stamp,
             ctime: stamp,
             part,
+        }
+    }
+
+    /// The node with the stamp as its change time.
+    pub fn touched(self, stamp: u64) -> Node
+        ensures { result ≡ touched stamp self }
+    {
+        Node {
+            ctime: stamp,
+            ..self
         }
     }
 

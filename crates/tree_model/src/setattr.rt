@@ -1,7 +1,7 @@
 ghost use Rattle.std.specs.Prelude.{◌≡◌, IsSome, IfOk};
 ghost use Rattle.std.specs.Option.{option_map};
 ghost use Rattle.std.specs.FinMap.{get};
-ghost use Rattle.tree_model.specs.Attributes.{changed};
+ghost use Rattle.tree_model.specs.Attributes.{changed, touched};
 ghost use Rattle.tree_model.specs.Finding.{setattr, setattr_at};
 ghost use Rattle.tree_model.specs.Making.{IsPlan};
 ghost use Rattle.tree_model.specs.Maps.{set};
@@ -31,6 +31,16 @@ pub(crate) fn change_node(nodes: &mut ByNumber<Node>, id: u64, changes: Changes,
 {
     let node = nodes.replace(id, spare_node());
     nodes.replace(id, node.changed(changes, stamp));
+}
+
+/// Gives the node of an id the stamp as its change time. It takes no memory.
+#[tactic(auto, using(crate::proofs::Undo::over_by_id, crate::proofs::Undo::there_by_id))]
+pub(crate) fn touch_node(nodes: &mut ByNumber<Node>, id: u64, stamp: u64)
+    requires { IsSome (get nodes.old id) }
+    ensures { nodes.new ≡ set nodes.old id (option_map (touched stamp) (get nodes.old id)) }
+{
+    let node = nodes.replace(id, spare_node());
+    nodes.replace(id, node.touched(stamp));
 }
 
 impl Tree {

@@ -18,7 +18,7 @@ pub struct Tree {
     pub(crate) entries: ByName<InodeId>,
     writers: BySession<()>,
     pub(crate) kept: ByClient<KeptReply>,
-    doomed: ByNumber<Doom>,
+    pub(crate) doomed: ByNumber<Doom>,
     pub(crate) next: ByNumber<u32>,
 }
 

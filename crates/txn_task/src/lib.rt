@@ -19,7 +19,7 @@ pub use list::{WantList, want_list};
 pub use messages::{Answer, Ask, Asked, Entry, OpStep};
 pub use outcome::{Outcome, Receipt};
 pub use pages::want_pages;
-pub use puts::{kind_of, put_entry, put_inode, put_next};
+pub use puts::{kind_of, put_doomed, put_entry, put_inode, put_next, remove_entry, remove_inode};
 pub use retry::Retry;
 pub use txn::Txn;
 pub use want::{Want, want_alloc, want_dent, want_inode, want_kept};
