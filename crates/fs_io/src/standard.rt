@@ -1,10 +1,11 @@
 ghost use Rattle.std.specs.Prelude.{◌≡◌, ◌<◌, IfOk, OnOk, length};
 ghost use Rattle.std.specs.Io.{ReadsAtMost, WritesAtMost};
 ghost use Rattle.std.specs.Io.KnownBytes.{ReadConsumes, WriteAppends};
+ghost use Rattle.fs_io.specs.Answers.{read_answer, write_answer};
 ghost use Rattle.fs_io.specs.Causes.{HasCause, count_after};
 
 use crate::traits::{Sink, SinkFailed, Source, SourceFailed};
-use std::io::{Read, Write};
+use std::io::{self, Read, Write};
 
 /// A reader of std as a source. Each `Err` of the reader is a fault.
 #[derive(Drop)]
@@ -42,13 +43,21 @@ impl<R: Read> Source for StdSource<R> {
         // Each error raises the count by one, and nothing else does.
         ensures count { read_faults self.new ≡ count_after (read_faults self.old) result }
     {
-        match self.inner.read(into) {
-            Ok(count) => Ok(count),
-            Err(_) => {
-                self.faults = self.faults.saturating_add(1);
-                Err(SourceFailed)
-            }
+        let answer = read_answer(self.inner.read(into));
+        if answer.is_err() {
+            self.faults = self.faults.saturating_add(1);
         }
+        answer
+    }
+}
+
+/// A source's answer, where its reader gave this one.
+fn read_answer(answer: io::Result<usize>) -> Result<usize, SourceFailed>
+    ensures { result ≡ read_answer answer }
+{
+    match answer {
+        Ok(count) => Ok(count),
+        Err(_) => Err(SourceFailed),
     }
 }
 
@@ -91,12 +100,20 @@ impl<W: Write> Sink for StdSink<W> {
         // Each error raises the count by one, and nothing else does.
         ensures count { write_faults self.new ≡ count_after (write_faults self.old) result }
     {
-        match self.inner.write(bytes) {
-            Ok(count) if count > 0 || bytes.is_empty() => Ok(count),
-            _ => {
-                self.faults = self.faults.saturating_add(1);
-                Err(SinkFailed)
-            }
+        let answer = write_answer(self.inner.write(bytes), bytes.len());
+        if answer.is_err() {
+            self.faults = self.faults.saturating_add(1);
         }
+        answer
+    }
+}
+
+/// A sink's answer, where its writer gave this one to a piece of so many bytes.
+fn write_answer(answer: io::Result<usize>, given: usize) -> Result<usize, SinkFailed>
+    ensures { result ≡ write_answer given answer }
+{
+    match answer {
+        Ok(count) if count > 0 || given == 0 => Ok(count),
+        _ => Err(SinkFailed),
     }
 }
