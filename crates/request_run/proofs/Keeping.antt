@@ -26,6 +26,7 @@ use Rattle.tree_model.specs.Finding.{if_there, on_node}
 use Rattle.tree_model.specs.Tree.{Tree, next_at}
 use Rattle.tree_model.specs.Walk.{resolve}
 use Rattle.tree_model.proofs.ApplyLaws.{apply_new, settle_at}
+use Rattle.tree_model.proofs.LinkingLaws.{link_is, unlink_is, rmdir_is}
 use Rattle.tree_model.proofs.MapLaws.{ids, get-set_same, get-set_other}
 
 -- ---- effects
@@ -88,6 +89,9 @@ update_keeps C T q (calls.Create place mode layout) is = makes C T q.server q.st
 update_keeps C T q (calls.Symlink place target) is =
     by_words (Keeps T) (path_of place.text) _ (λ code. tt) (λ path. by_words (Keeps T) (path_of target) _ (λ code. tt) (λ leads. made C T q.server q.stamp (new_link target) (resolve T place.base path Parent)))
 update_keeps C T q (calls.Setattr place changes) is = by_words (Keeps T) (path_of place.text) _ (λ code. tt) (λ path. by_node (Keeps T) T (resolve T place.base path Follow) _ (λ code. tt) (λ id node. refl))
+update_keeps C T q (calls.Link from to) is = link_is (Keeps T) T q.stamp (λ code. tt) (λ dir name id node is. refl) from to
+update_keeps C T q (calls.Unlink place) is = unlink_is (Keeps T) T q.stamp (λ code. tt) (λ dir name id. refl) (λ dir name id node is. refl) (λ dir name id node is. refl) place
+update_keeps C T q (calls.Rmdir place) is = rmdir_is (Keeps T) T q.stamp (λ code. tt) (λ dir name id. refl) place
 update_keeps C T q (calls.Lookup place) is = absurd (cc)
 update_keeps C T q (calls.Stat place) is = absurd (cc)
 update_keeps C T q (calls.List place) is = absurd (cc)

@@ -30,6 +30,7 @@ use Rattle.tree_model.specs.Effects.{Effect, Leaves, Makes, Settles, at_length, 
 use Rattle.tree_model.specs.Finding.{found_of, stat_at, list_at, readlink_at, target_of, if_there, setattr_at}
 use Rattle.tree_model.specs.Tree.{Tree, next_at, node_with}
 use Rattle.tree_model.specs.Walk.{resolve}
+use Rattle.tree_model.proofs.LinkingLaws.{link_is, unlink_is, rmdir_is}
 use Rattle.run_record.specs.Right.{IsNoRefusal}
 
 abbrev RepliesWell : Effect → Type 0
@@ -137,6 +138,9 @@ call_well C T q (calls.Symlink place target) =
     by_path (path_of place.text) (λ path. on_path (path_of target) (λ leads. make_at C T q.server q.stamp (new_link target) (resolve T place.base path Parent)))
     (λ path. by_path (path_of target) (λ leads. make_at C T q.server q.stamp (new_link target) (resolve T place.base path Parent)) (λ leads. make_well C T q.server q.stamp (new_link target) (resolve T place.base path Parent)))
 call_well C T q (calls.Setattr place changes) = by_path (path_of place.text) (λ path. setattr_at T q.stamp changes (resolve T place.base path Follow)) (λ path. setattr_well T q.stamp changes (resolve T place.base path Follow))
+call_well C T q (calls.Link from to) = link_is RepliesWell T q.stamp (λ code. tt) (λ dir name id node is. tt) from to
+call_well C T q (calls.Unlink place) = unlink_is RepliesWell T q.stamp (λ code. tt) (λ dir name id. tt) (λ dir name id node is. tt) (λ dir name id node is. tt) place
+call_well C T q (calls.Rmdir place) = rmdir_is RepliesWell T q.stamp (λ code. tt) (λ dir name id. tt) place
 call_well C T q call = tt
 
 pub made_reply : (C : Settings) (T V : Tree) (q : Request) (reply : Reply) → at_length (settled_by reply) (effect C T q) ≡ Makes V reply → IsNoRefusal reply

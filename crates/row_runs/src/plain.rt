@@ -2,7 +2,7 @@ use anyhow::{Result, bail};
 use fs_base::{ClientId, Reply, Request};
 use std::alloc::Global;
 use test_support::{call_of, config_of};
-use tree_model::{Tree, is_built};
+use tree_model::{Tree, is_told};
 
 /// The new tree of a configuration in words.
 pub fn planted(alloc: Global, words: &[&str]) -> Result<Tree> {
@@ -30,8 +30,8 @@ fn request_of(alloc: Global, words: &[&str]) -> Result<Request> {
 }
 
 fn answer(alloc: Global, tree: &mut Tree, request: &Request) -> Result<Reply> {
-    if request.server >= 16 || !is_built(&request.call) {
-        bail!("the call isn't built");
+    if request.server >= 16 || !is_told(&request.call) {
+        bail!("the call isn't told");
     }
     let reply = tree.apply(alloc, request, None)?;
     Ok(reply)

@@ -56,6 +56,7 @@ fn query_of(word: &str, place: Place) -> Result<Call> {
         "list" => Ok(Call::List(place)),
         "readlink" => Ok(Call::Readlink(place)),
         "unlink" => Ok(Call::Unlink(place)),
+        "rmdir" => Ok(Call::Rmdir(place)),
         _ => bail!("no such call"),
     }
 }
@@ -78,8 +79,8 @@ fn make_of(word: &str, place: Place, mode: &str, layout: &[&str]) -> Result<Call
 }
 
 /// A call in words: its name, the number of the inode that its path starts at, the path, and what else it has. That is
-/// a mode and maybe a chunk and a stripe for `mkdir` and `create`, a target for `symlink`, and for `setattr` five
-/// numbers, each of which may be `-`.
+/// a mode and maybe a chunk and a stripe for `mkdir` and `create`, a target for `symlink`, a second inode and path for
+/// `link`, and for `setattr` five numbers, each of which may be `-`.
 pub fn call_of(alloc: Global, words: &[&str]) -> Result<Call> {
     let [word, base, path, more @ ..] = words else {
         bail!("a call has a name, an inode and a path");
@@ -94,6 +95,10 @@ pub fn call_of(alloc: Global, words: &[&str]) -> Result<Call> {
         ("setattr", changes) => {
             let changes = changes_of(changes)?;
             Ok(Call::Setattr { place, changes })
+        }
+        ("link", [base, path]) => {
+            let to = place_of(alloc, base, path)?;
+            Ok(Call::Link { from: place, to })
         }
         (_, []) => query_of(word, place),
         _ => bail!("the call has no such words"),
