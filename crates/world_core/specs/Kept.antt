@@ -23,18 +23,21 @@ use Rattle.client_core.specs.Plans.{IsScript}
 use Rattle.client_core.specs.declared.plan.Op.{Op}
 use Rattle.client_core.specs.declared.plan.Script.{Script}
 use Rattle.run_record.specs.Legal.{EntryAt, journal_rows}
-use Rattle.run_record.specs.Receipts.{AreConflicts, AreReceipts, Follow, Rises}
+use Rattle.run_record.specs.Outcomes.{seen_by}
+use Rattle.run_record.specs.Follow.{Follow}
+use Rattle.run_record.specs.Receipts.{outcome_of, AreConflicts, AreReceipts, Rises}
 use Rattle.run_record.specs.Touched.{AreTouched}
+pub use Rattle.run_record.specs.Outcomes.{last_version}
 use Rattle.run_record.specs.declared.run.Listed.{Listed}
 use Rattle.world_core.specs.declared.seats.Seat.{Seat}
 use Rattle.world_core.specs.declared.seats.Work.{Work}
 
 -- ---- what is done
 
--- the version of the last receipt
+-- the newest version that the last receipt shows
 abbrev pub version_after : ℕ → List Listed → ℕ
 version_after floor [] = floor
-version_after floor (listed ∷ rest) = version_after listed.receipt.version rest
+version_after floor (listed ∷ rest) = version_after (seen_by (outcome_of listed.receipt)) rest
 
 -- a receipt for each operation that has ended
 pub record IsPast (C : Settings) (attempts : ℕ) (journal : List Entry) (k : ℕ) (script : Script) (done : ℕ) (receipts : List Listed) : Type 0 where
@@ -48,10 +51,10 @@ abbrev pub HasReceipt : List Listed → ℕ → Type 0
 HasReceipt [] place = ⊥
 HasReceipt (listed ∷ rest) place = ((listed.receipt.committed ≡ true) × (listed.receipt.version ≡ place + 1)) ⊎ HasReceipt rest place
 
--- each entry of the client has a receipt, or is of this request and was made since its call began
+-- each entry of the client has a receipt, or is of this request and was made from this version on
 abbrev pub AreNamedOr : List Entry → ClientId → List Listed → Request → ℕ → Type 0
-AreNamedOr journal client receipts request front =
-    (place : ℕ) (entry : Entry) → EntryAt journal place entry → entry.request.client ≡ client → HasReceipt receipts place ⊎ ((entry.request ≡ request) × (front ≤ place))
+AreNamedOr journal client receipts request floor =
+    (place : ℕ) (entry : Entry) → EntryAt journal place entry → entry.request.client ≡ client → HasReceipt receipts place ⊎ ((entry.request ≡ request) × (floor ≤ place))
 
 abbrev pub AreNamed : List Entry → ClientId → List Listed → Type 0
 AreNamed journal client receipts = (place : ℕ) (entry : Entry) → EntryAt journal place entry → entry.request.client ≡ client → HasReceipt receipts place
@@ -74,11 +77,8 @@ pub record IsBegun (C : Settings) (journal : List Entry) (client : ClientId) (fl
   pub covered : IsCovered C task.request task.reads
   -- the client has made no entry since
   pub own : (place : ℕ) (entry : Entry) → EntryAt journal place entry → entry.request.client ≡ client → place < task.snapshot
-
--- the version of the last conflict
-abbrev pub last_version : ℕ → List (ℕ × Key) → ℕ
-last_version floor [] = floor
-last_version floor (pair ∷ pairs) = last_version pair.0 pairs
+  -- it isn't one too many
+  pub left : length task.conflicts < task.attempts
 
 pub record IsTask (C : Settings) (attempts : ℕ) (journal : List Entry) (front : ℕ) (task : TaskView) : Type 0 where
   pub config : task.config ≡ C
@@ -89,7 +89,7 @@ pub record IsTask (C : Settings) (attempts : ℕ) (journal : List Entry) (front 
 
 -- what the ask that waits for its answer owes
 abbrev pub IsPending : Settings → TaskView → Ask → Type 0
-IsPending C task asks.Begin = (task.waiting ≡ waits.Beginning) × (task.begun ≡ false)
+IsPending C task asks.Begin = (task.waiting ≡ waits.Beginning) × (task.begun ≡ false) × (length task.conflicts < task.attempts)
 IsPending C task (asks.Get key) = (task.waiting ≡ waits.Reading (asks.Get key)) × (task.begun ≡ true) × MayAsk C (λ T. footprint C T task.request) task.reads (asks.Get key)
 IsPending C task (asks.Range lo hi limit) = (task.waiting ≡ waits.Reading (asks.Range lo hi limit)) × (task.begun ≡ true) × MayAsk C (λ T. footprint C T task.request) task.reads (asks.Range lo hi limit)
 IsPending C task (asks.Commit entry) =
@@ -104,7 +104,7 @@ pub record IsUnderWay (C : Settings) (attempts : ℕ) (journal : List Entry) (sc
   pub request : task.request ≡ request_of script op step
   pub from : version_after 0 receipts ≤ front
   pub front_in : front ≤ length journal
-  pub named : AreNamedOr journal script.id receipts task.request front
+  pub named : AreNamedOr journal script.id receipts task.request (last_version front task.conflicts)
   pub task_is : IsTask C attempts journal front task
 
 pub record IsWork (C : Settings) (attempts : ℕ) (journal : List Entry) (script : Script) (op : ℕ) (receipts : List Listed) (work : Work) : Type 0 where
