@@ -24,17 +24,18 @@ use Rattle.client_core.specs.declared.plan.Script.{Script}
 use Rattle.run_record.specs.ReplyText.{text_of}
 use Rattle.run_record.specs.Receipts.{fronts_of}
 use Rattle.run_record.specs.declared.run.Listed.{Listed}
-use Rattle.world_core.specs.Answered.{IsExchange}
+use Rattle.request_run.specs.Answered.{IsExchange}
 use Rattle.path_walk.specs.Footprint.{footprint}
 use Rattle.path_walk.specs.Owed.{HasRead}
-use Rattle.world_core.specs.Kept.{AreCovered, AreNamed, IsCovered, IsPast, IsPending, IsSeat, IsUnderWay, IsWork, IsWorking}
-use Rattle.world_core.specs.Objects.{IsGrowth, entries_of, with_entry}
+use Rattle.request_run.specs.Served.{AreCovered, IsCovered, IsPending}
+use Rattle.world_core.specs.Kept.{AreNamed, IsPast, IsSeat, IsUnderWay, IsWork, IsWorking}
+use Rattle.request_run.specs.Entries.{IsGrowth, entries_of, with_entry}
 use Rattle.world_core.specs.Ready.{GoesOn, HasEnded, IsReady, is_done, listed_of}
-use Rattle.world_core.specs.Sound.{IsOpen, IsSoundJournal}
+use Rattle.request_run.specs.Sound.{IsOpen, IsSoundJournal}
 use Rattle.world_core.specs.declared.seats.Seat.{Seat}
 use Rattle.world_core.specs.declared.seats.Work.{Work}
 use Rattle.world_core.proofs.Growth.{EntryAt_cases, IsPast-grown}
-use Rattle.world_core.proofs.Rows.{entries-push, length_entries}
+use Rattle.request_run.proofs.Rows.{entries-push, length_entries}
 use Rattle.world_core.proofs.Steps.{ready}
 use Rattle.world_core.proofs.Taking.{begins, past_more}
 
@@ -208,12 +209,6 @@ on_any (Ok x) p = p
 on_any (Err e) p = tt
 
 -- ---- the same configuration and opening rows
-
--- the store after a commit's answer, by the ask
-pub answered_grows : (store after : Store MetaEntry) (ask : Ask) (entry : Entry) → ask ≡ asks.Commit entry → (after ≡ store) ⊎ (after ≡ with_entry store entry)
-    → (after ≡ store) ⊎ ((made : Entry) × (ask ≡ asks.Commit made) × (after ≡ with_entry store made))
-answered_grows store after ask entry is (inl same) = inl same
-answered_grows store after ask entry is (inr more) = inr (entry, is, more)
 
 pub config_after : (store after : Store MetaEntry) (ask : Ask) → (after ≡ store) ⊎ ((entry : Entry) × (ask ≡ asks.Commit entry) × (after ≡ with_entry store entry)) → after.config ≡ store.config
 config_after store after ask h =

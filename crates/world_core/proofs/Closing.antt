@@ -19,13 +19,14 @@ use Rattle.client_core.specs.declared.plan.Script.{Script}
 use Rattle.run_record.specs.Right.{IsRight, conflicts_in, summary_of}
 use Rattle.run_record.specs.declared.run.Record.{Record}
 use Rattle.world_core.specs.Kept.{IsSeat}
-use Rattle.world_core.specs.Objects.{Done, IsGrowth, IsStep, Objects, entries_of, grown, no_histories}
-use Rattle.world_core.specs.Sound.{IsOpen, IsSoundJournal}
+use Rattle.request_run.specs.Entries.{IsGrowth, entries_of}
+use Rattle.world_core.specs.Objects.{Done, IsStep, Objects, grown, no_histories}
+use Rattle.request_run.specs.Sound.{IsOpen, IsSoundJournal}
 use Rattle.world_core.specs.World.{AreSeated, HaveEnded, IsWorld, WorldView, plan_of, receipts_in, scripts_of, seats_of}
 use Rattle.world_core.specs.declared.seats.Seat.{Seat}
 use Rattle.world_core.proofs.Counting.{few_conflicts}
 use Rattle.world_core.proofs.Righting.{right_record, sections}
-use Rattle.world_core.proofs.Rows.{length_entries}
+use Rattle.request_run.proofs.Rows.{length_entries}
 use Rattle.world_core.proofs.Seating.{scripts_new, seat_there, seated_new}
 
 -- ---- the plan

@@ -36,14 +36,15 @@ use Rattle.run_record.specs.Outcomes.{seen_by, AreAttempts, IsSeen, IsTold, MayT
 use Rattle.run_record.specs.Receipts.{AreConflicts, IsOf}
 use Rattle.run_record.specs.Right.{IsNoRefusal}
 use Rattle.run_record.specs.declared.run.Listed.{Listed}
-use Rattle.world_core.specs.Kept.{AreNamedOr, IsBegun, IsPast, IsUnderWay, last_version, version_after}
+use Rattle.request_run.specs.Served.{IsBegun, last_version}
+use Rattle.world_core.specs.Kept.{AreNamedOr, IsPast, IsUnderWay, version_after}
 use Rattle.world_core.specs.Ready.{HasEnded, listed_of}
-use Rattle.world_core.specs.Sound.{IsSoundJournal}
+use Rattle.request_run.specs.Sound.{IsSoundJournal}
 use Rattle.run_record.proofs.TreeReplies.{IsTreeReply, accepted_reply, attempts_left, may_tell}
 use Rattle.run_record.proofs.Rising.{last_version_above}
-use Rattle.world_core.proofs.Conflicts.{last_version_low, rows_ascending}
+use Rattle.request_run.proofs.Conflicts.{last_version_low, rows_ascending}
 use Rattle.world_core.proofs.Growth.{EntryAt_within}
-use Rattle.world_core.proofs.History.{kept_by, once, row_kept, rows_tree}
+use Rattle.request_run.proofs.History.{kept_by, once, row_kept, rows_tree}
 use Rattle.world_core.proofs.Named.{is_own, named_made, named_none, no_entry_fresh, no_entry_new, no_refusal, tree_told}
 
 -- ---- the receipt

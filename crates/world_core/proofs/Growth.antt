@@ -25,7 +25,8 @@ use Rattle.run_record.specs.Outcomes.{IsOutcome, IsSeen, IsTold, NamesEntry, Sho
 use Rattle.run_record.specs.Receipts.{front_of, outcome_of, AreConflicts, AreReceipts, IsReceipt, IsServed, NamesLater}
 use Rattle.run_record.specs.Touched.{IsTouched}
 use Rattle.run_record.specs.declared.run.Listed.{Listed}
-use Rattle.world_core.specs.Kept.{AreNamed, AreNamedOr, IsBegun, IsPast, IsSeat, IsTask, IsUnderWay, IsWork, IsWorking, last_version, version_after}
+use Rattle.request_run.specs.Served.{IsBegun, IsTask, last_version}
+use Rattle.world_core.specs.Kept.{AreNamed, AreNamedOr, IsPast, IsSeat, IsUnderWay, IsWork, IsWorking, version_after}
 use Rattle.world_core.specs.declared.seats.Seat.{Seat}
 use Rattle.world_core.specs.declared.seats.Work.{Work}
 

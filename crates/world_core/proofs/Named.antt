@@ -28,14 +28,15 @@ use Rattle.run_record.specs.Outcomes.{IsSeen, NamesEntry}
 use Rattle.run_record.specs.Follow.{Follow}
 use Rattle.run_record.specs.Receipts.{front_of, outcome_of, AreReceipts, IsOf, IsReceipt, IsServed}
 use Rattle.run_record.specs.declared.run.Listed.{Listed}
-use Rattle.world_core.specs.Kept.{AreNamed, AreNamedOr, HasReceipt, IsBegun, IsPast}
-use Rattle.world_core.specs.Sound.{IsSoundJournal}
-use Rattle.world_core.proofs.Conflicts.{rows_ascending}
-use Rattle.world_core.proofs.History.{entry_sound, kept_above, kept_by, rows_tree}
+use Rattle.request_run.specs.Served.{IsBegun}
+use Rattle.world_core.specs.Kept.{AreNamed, AreNamedOr, HasReceipt, IsPast}
+use Rattle.request_run.specs.Sound.{IsSoundJournal}
+use Rattle.request_run.proofs.Conflicts.{rows_ascending}
+use Rattle.request_run.proofs.History.{entry_sound, kept_above, kept_by, rows_tree}
 use Rattle.run_record.specs.Right.{IsNoRefusal}
 use Rattle.run_record.proofs.Served.{served}
 use Rattle.run_record.proofs.TreeReplies.{IsTreeReply, new_reply, query_reply}
-use Rattle.world_core.proofs.Replies.{made_reply}
+use Rattle.request_run.proofs.Replies.{made_reply}
 
 -- ---- one receipt more
 

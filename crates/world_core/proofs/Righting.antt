@@ -29,14 +29,15 @@ use Rattle.run_record.specs.declared.run.Listed.{Listed}
 use Rattle.run_record.specs.declared.run.Record.{Record}
 use Rattle.run_record.proofs.Replaying.{section_of}
 use Rattle.run_record.proofs.Served.{served}
-use Rattle.world_core.specs.Kept.{AreCovered, AreNamed, HasReceipt, IsSeat, IsWorking}
-use Rattle.world_core.specs.Objects.{entries_of}
-use Rattle.world_core.specs.Sound.{IsSoundJournal}
+use Rattle.request_run.specs.Served.{AreCovered}
+use Rattle.world_core.specs.Kept.{AreNamed, HasReceipt, IsSeat, IsWorking}
+use Rattle.request_run.specs.Entries.{entries_of}
+use Rattle.request_run.specs.Sound.{IsSoundJournal}
 use Rattle.world_core.specs.World.{AreSeated, HaveEnded, WorldView, plan_of, receipts_in, scripts_of}
 use Rattle.world_core.specs.declared.seats.Seat.{Seat}
 use Rattle.world_core.specs.declared.seats.Work.{Work}
-use Rattle.world_core.proofs.History.{entry_sound, legal, rows_ascend, rows_tree}
-use Rattle.world_core.proofs.Replies.{made_reply}
+use Rattle.request_run.proofs.History.{entry_sound, legal, rows_ascend, rows_tree}
+use Rattle.request_run.proofs.Replies.{made_reply}
 use Rattle.world_core.proofs.Seating.{one_seat}
 
 -- ---- each entry

@@ -14,12 +14,13 @@ use Rattle.client_core.specs.Client.{new_client}
 use Rattle.client_core.specs.Plans.{AreDistinct, IsScript}
 use Rattle.client_core.specs.declared.plan.Script.{Script}
 use Rattle.run_record.specs.Legal.{EntryAt}
-use Rattle.world_core.specs.Kept.{AreCovered, IsSeat}
-use Rattle.world_core.specs.Objects.{IsGrowth, entries_of}
+use Rattle.request_run.specs.Served.{AreCovered}
+use Rattle.world_core.specs.Kept.{IsSeat}
+use Rattle.request_run.specs.Entries.{IsGrowth, entries_of}
 use Rattle.world_core.specs.World.{AllSeats, AreSeated, scripts_of, seats_of}
 use Rattle.world_core.specs.declared.seats.Seat.{Seat}
 use Rattle.world_core.proofs.Growth.{EntryAt_cases, IsSeat-grown}
-use Rattle.world_core.proofs.Rows.{entries-push, length_entries}
+use Rattle.request_run.proofs.Rows.{entries-push, length_entries}
 
 -- ---- places
 

@@ -23,20 +23,23 @@ use Rattle.txn_task.specs.declared.messages.Entry.{Entry}
 use Rattle.txn_task.specs.declared.outcome.Outcome.{Outcome}
 use Rattle.meta_task.specs.Task.{TaskView, Asks, IsFull, IsMadeReply, IsSpent, learnt}
 use Rattle.meta_task.specs.declared.waiting.Waiting.TheVariants as waits
+use Rattle.client_core.specs.Ops.{call_of}
 use Rattle.client_core.specs.Plans.{IsOp, IsScript}
 use Rattle.client_core.specs.declared.plan.Op.{Op}
+use Rattle.client_core.specs.declared.plan.Op.TheVariants as ops
 use Rattle.client_core.specs.declared.plan.Script.{Script}
-use Rattle.run_record.specs.Legal.{journal_rows, writes_of}
+use Rattle.run_record.specs.Legal.{EntryAt, journal_rows, writes_of}
 use Rattle.run_record.specs.Outcomes.{version_before, AreAttempts, MayTell, Shows}
 use Rattle.run_record.specs.Receipts.{AreConflicts}
 use Rattle.run_record.specs.declared.run.Listed.{Listed}
-use Rattle.world_core.specs.Answered.{HasKey}
-use Rattle.world_core.specs.Kept.{AreNamedOr, IsBegun, IsPast, IsPending, IsUnderWay, last_version}
-use Rattle.world_core.specs.Ready.{HasEnded, IsAnswer, IsReady}
-use Rattle.world_core.specs.Sound.{IsSoundJournal}
+use Rattle.request_run.specs.Answered.{HasKey, IsAnswer}
+use Rattle.request_run.specs.Served.{IsBegun, IsPending, last_version}
+use Rattle.world_core.specs.Kept.{AreNamedOr, IsPast, IsUnderWay}
+use Rattle.world_core.specs.Ready.{HasEnded, IsReady}
+use Rattle.request_run.specs.Sound.{IsSoundJournal}
 use Rattle.world_core.proofs.Ends.{conflicts_are, ended_kept, ended_made, ended_seen, ended_told, front_below, no_entry_sound}
-use Rattle.world_core.proofs.Conflicts.{last_version-push, later_above, version_before-push}
-use Rattle.world_core.proofs.Fitting.{BaseFits, RequestFits, op_fits}
+use Rattle.request_run.proofs.Conflicts.{last_version-push, later_above, version_before-push}
+use Rattle.request_run.proofs.Fitting.{BaseFits, RequestFits}
 use Rattle.world_core.proofs.Growth.{AreConflicts-grown, EntryAt_cases, EntryAt_new}
 use Rattle.world_core.proofs.Tasks.{IsTask_begun, IsTask_conflict, IsTask_got, IsTask_rows, next}
 
@@ -53,6 +56,17 @@ AreNamedOr_none es client rs request floor other none named place e at mine = el
   | inl has ↦ inl has
   | inr way ↦ absurd (none place e at way.0)
 ]
+
+-- the base of an operation's call
+op_fits : (step : Op) → IsOp step → BaseFits (call_of step)
+op_fits (ops.Mkdir stamp place mode layout) h = let b : place.base < 2 ^ 36 = h.1.base_below in omega arith
+op_fits (ops.Create stamp place mode layout) h = let b : place.base < 2 ^ 36 = h.1.base_below in omega arith
+op_fits (ops.Symlink stamp place target) h = let b : place.base < 2 ^ 36 = h.1.base_below in omega arith
+op_fits (ops.Setattr stamp place changes) h = let b : place.base < 2 ^ 36 = h.1.base_below in omega arith
+op_fits (ops.Lookup stamp place) h = let b : place.base < 2 ^ 36 = h.1.base_below in omega arith
+op_fits (ops.Stat stamp place) h = let b : place.base < 2 ^ 36 = h.1.base_below in omega arith
+op_fits (ops.List stamp place) h = let b : place.base < 2 ^ 36 = h.1.base_below in omega arith
+op_fits (ops.Readlink stamp place) h = let b : place.base < 2 ^ 36 = h.1.base_below in omega arith
 
 -- each operation of a script is in its ranges
 op_of : (steps : List Op) (n : ℕ) (step : Op) → All IsOp steps → slice_get steps n ≡ Some step → IsOp step

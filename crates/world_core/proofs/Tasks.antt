@@ -30,12 +30,14 @@ use Rattle.client_core.specs.declared.plan.Script.{Script}
 use Rattle.run_record.specs.Legal.{journal_rows, writes_of}
 use Rattle.run_record.specs.Receipts.{NamesLater}
 use Rattle.run_record.specs.declared.run.Listed.{Listed}
-use Rattle.world_core.specs.Kept.{AreNamedOr, IsBegun, IsCovered, IsPending, IsTask, IsUnderWay, last_version}
-use Rattle.world_core.specs.Ready.{HasEnded, IsAnswer, IsReady, MayAnswer}
-use Rattle.world_core.specs.Sound.{IsSoundJournal}
-use Rattle.world_core.proofs.Conflicts.{AreConflicts-push, conflict_named, last_version-push}
-use Rattle.world_core.proofs.Covered.{KeysAgree-push, RangesAgree-push, covered_key, covered_none, covered_range}
-use Rattle.world_core.proofs.Fitting.{RequestFits}
+use Rattle.request_run.specs.Served.{IsBegun, IsCovered, IsPending, IsTask, last_version}
+use Rattle.world_core.specs.Kept.{AreNamedOr, IsUnderWay}
+use Rattle.request_run.specs.Answered.{IsAnswer, MayAnswer}
+use Rattle.world_core.specs.Ready.{HasEnded, IsReady}
+use Rattle.request_run.specs.Sound.{IsSoundJournal}
+use Rattle.request_run.proofs.Conflicts.{AreConflicts-push, conflict_named, last_version-push}
+use Rattle.request_run.proofs.Covered.{KeysAgree-push, RangesAgree-push, covered_key, covered_none, covered_range}
+use Rattle.request_run.proofs.Fitting.{RequestFits}
 use Rattle.world_core.proofs.Growth.{EntryAt_within}
 
 module _ (C : Settings) (attempts : ℕ) (journal : List Entry) (front : ℕ) where

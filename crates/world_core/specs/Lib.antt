@@ -1,6 +1,4 @@
-pub mod Answered
 pub mod Kept
 pub mod Objects
 pub mod Ready
-pub mod Sound
 pub mod World

@@ -1,9 +1,10 @@
 -- The objects that turns work on: the store, and the storage nodes.
-use Rattle.std.specs.Prelude.{◌≡◌, ◌⊎◌, ℕ, List, [], ◌∷◌, ◌++◌, map, replicate}
+use Rattle.std.specs.Prelude.{◌≡◌, ◌⊎◌, ℕ, List, [], replicate}
 use Rattle.fs_base.specs.declared.ids.ClientId.{ClientId}
 use Rattle.kv_store.specs.Store.{Store}
 use Rattle.meta_task.specs.declared.entry.MetaEntry.{MetaEntry}
 use Rattle.txn_task.specs.declared.messages.Entry.{Entry}
+use Rattle.request_run.specs.Entries.{with_entry}
 
 -- what a storage node has done: nothing yet that it could do
 abbrev pub Done : Type 0
@@ -18,12 +19,6 @@ pub record Objects : Type 0 where
 abbrev pub no_histories : ℕ → List (List Done)
 no_histories count = replicate count []
 
-abbrev pub entries_of : List MetaEntry → List Entry
-entries_of journal = map (λ whole. whole.entry) journal
-
-abbrev pub with_entry : Store MetaEntry → Entry → Store MetaEntry
-with_entry store entry = record store { journal = store.journal ++ record { entry = entry } ∷ [] }
-
 -- the store has one entry more
 abbrev pub grown : Objects → Entry → Objects
 grown objects entry = record objects { store = with_entry objects.store entry }
@@ -31,7 +26,3 @@ grown objects entry = record objects { store = with_entry objects.store entry }
 -- one turn of a client: nothing has changed, or one object grew, by one; the store by an entry of that client
 abbrev pub IsStep : Objects → Objects → ClientId → Type 0
 IsStep before after client = (after ≡ before) ⊎ ((entry : Entry) × (after ≡ grown before entry) × (entry.request.client ≡ client))
-
--- the same of the store alone
-abbrev pub IsGrowth : Store MetaEntry → Store MetaEntry → ClientId → Type 0
-IsGrowth before after client = (after ≡ before) ⊎ ((entry : Entry) × (after ≡ with_entry before entry) × (entry.request.client ≡ client))

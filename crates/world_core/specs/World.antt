@@ -10,9 +10,11 @@ use Rattle.client_core.specs.declared.plan.Schedule.TheVariants.{Items}
 use Rattle.client_core.specs.declared.plan.Script.{Script}
 use Rattle.run_record.specs.Legal.{EntryAt}
 use Rattle.run_record.specs.declared.run.Listed.{Listed}
-use Rattle.world_core.specs.Kept.{AreCovered, IsSeat}
-use Rattle.world_core.specs.Objects.{Objects, entries_of}
-use Rattle.world_core.specs.Sound.{IsOpen}
+use Rattle.request_run.specs.Served.{AreCovered}
+use Rattle.world_core.specs.Kept.{IsSeat}
+use Rattle.request_run.specs.Entries.{entries_of}
+use Rattle.world_core.specs.Objects.{Objects}
+use Rattle.request_run.specs.Sound.{IsOpen}
 use Rattle.world_core.specs.declared.seats.Seat.{Seat}
 use Rattle.world_core.specs.declared.world.Turn.{Turn}
 use Rattle.world_core.specs.declared.world.Turn.TheVariants as turns

@@ -1,7 +1,6 @@
 //! Clients and servers in listed turns: each turn is one ask of one client, answered by one object.
 #![tactic(auto)]
 
-mod answers;
 mod record;
 mod seats;
 mod turns;

@@ -2,7 +2,7 @@
 
 ghost use Rattle.std.specs.Prelude.{◌≡◌, ◌<◌, ◌++◌, ◌^◌, map, IfOk, OnOk};
 ghost use Rattle.run_record.specs.Right.{conflicts_in, summary_of as counts_of};
-ghost use Rattle.world_core.specs.Objects.{entries_of};
+ghost use Rattle.request_run.specs.Entries.{entries_of};
 ghost use Rattle.world_core.specs.World.{receipts_in, scripts_of};
 
 use crate::seats::Seat;

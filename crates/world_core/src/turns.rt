@@ -14,20 +14,21 @@ ghost use Rattle.txn_task.specs.declared.messages.Ask.TheVariants as asks;
 ghost use Rattle.txn_task.specs.declared.outcome.Outcome.{Outcome};
 ghost use Rattle.txn_task.specs.declared.outcome.Receipt.{Receipt};
 ghost use Rattle.client_core.specs.Plans.{AreDistinct, IsScript};
-ghost use Rattle.world_core.specs.Kept.{AreCovered, IsPast, IsSeat, IsWork};
+ghost use Rattle.request_run.specs.Served.{AreCovered};
+ghost use Rattle.world_core.specs.Kept.{IsPast, IsSeat, IsWork};
 ghost use Rattle.world_core.specs.World.{AreSeated, scripts_of};
 ghost use Rattle.world_core.specs.declared.seats.Seat.{Seat as SeatView};
-ghost use Rattle.world_core.specs.Objects.{IsGrowth, entries_of, with_entry};
-ghost use Rattle.world_core.specs.Answered.{IsExchange};
-ghost use Rattle.world_core.specs.Ready.{IsAnswer, IsReady, MayAnswer, is_done};
-ghost use Rattle.world_core.specs.Sound.{IsOpen};
+ghost use Rattle.request_run.specs.Entries.{IsGrowth, entries_of, with_entry};
+ghost use Rattle.request_run.specs.Answered.{IsExchange, IsAnswer, MayAnswer};
+ghost use Rattle.world_core.specs.Ready.{IsReady, is_done};
+ghost use Rattle.request_run.specs.Sound.{IsOpen};
 
-use crate::answers::{answer, sound_store};
 use crate::seats::{Seat, Work};
 use client_core::{ClientAnswer, ClientAsk, ClientState};
 use fs_base::{Config, Items, Memory, Request};
 use kv_store::KvState;
 use meta_task::{MetaEntry, MetaTask};
+use request_run::{exchange, sound_store};
 use run_record::{Listed, text_of};
 use std::alloc::Global;
 use txn_task::{Answer, Ask, Outcome, Receipt};
@@ -248,24 +249,6 @@ fn settle(
         front,
     } = work;
     finish(alloc, store, config, attempts, k, seat, server, front, task)
-}
-
-/// The ask that waits is answered by the store, and the task asks on.
-fn exchange(
-    alloc: Global,
-    store: &mut KvState<MetaEntry>,
-    task: &mut MetaTask,
-    ask: Ask,
-) -> Result<Ask, Memory>
-    requires begun { IsOpen store.old }
-    requires may { MayAnswer store.old.config (entries_of store.old.journal) task.old.snapshot ask }
-    requires fits { (new : List Entry) (answer : AnswerView) → IsAnswer store.old.config (entries_of store.old.journal) new task.old.snapshot ask answer → MayTake task.old.waiting answer }
-    ensures exchanged { IfOk result (λ next. IsExchange store.old.config (entries_of store.old.journal) (entries_of store.new.journal) task.old ask task.new next) }
-    ensures grows { (store.new ≡ store.old) ⊎ ((entry : Entry) × (ask ≡ asks.Commit entry) × (store.new ≡ with_entry store.old entry)) }
-{
-    let answer = answer(alloc, store, task.snapshot(), ask)?;
-    let next = task.next(answer)?;
-    Ok(next)
 }
 
 /// One ask of a request. The client is there for contracts alone.

@@ -1,5 +1,5 @@
 use Rattle.std.proofs.Common.{◌≡◌}
-use Rattle.world_core.specs.Objects.{entries_of}
+use Rattle.request_run.specs.Entries.{entries_of}
 use Rattle.world_core.proofs.record.entries.Given as goal
 
 abbrev pub invariant-loop-whole : goal.invariant-loop-whole

@@ -1,7 +1,7 @@
 use Rattle.std.proofs.Common.{subst}
 use Rattle.fs_base.specs.Config.{Settings}
-use Rattle.world_core.specs.Objects.{entries_of}
-use Rattle.world_core.specs.Sound.{IsSoundJournal}
+use Rattle.request_run.specs.Entries.{entries_of}
+use Rattle.request_run.specs.Sound.{IsSoundJournal}
 use Rattle.world_core.proofs.Calls.{config_after, covered_after, grown_past, growth_is, open_after, ready_after}
 use Rattle.world_core.proofs.turns.advance.Goals as goal
 

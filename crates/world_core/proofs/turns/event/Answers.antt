@@ -1,5 +1,5 @@
 use Rattle.std.proofs.Common.{◌∙◌}
-use Rattle.world_core.specs.Objects.{entries_of}
+use Rattle.request_run.specs.Entries.{entries_of}
 use Rattle.world_core.proofs.Calls.{config_grown, open_grown}
 use Rattle.world_core.proofs.Seating.{growth_there, scripts_there, seat_kept, seated_there}
 use Rattle.world_core.proofs.turns.event.Goals as goal

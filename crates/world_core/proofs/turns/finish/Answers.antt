@@ -1,4 +1,4 @@
-use Rattle.world_core.specs.Objects.{entries_of}
+use Rattle.request_run.specs.Entries.{entries_of}
 use Rattle.world_core.proofs.Calls.{on_ok, seat_ended}
 use Rattle.world_core.proofs.turns.finish.Goals as goal
 

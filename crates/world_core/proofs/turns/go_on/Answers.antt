@@ -1,7 +1,7 @@
 use Rattle.std.proofs.Common.{sym, subst}
 use Rattle.fs_base.specs.Config.{Settings}
-use Rattle.world_core.specs.Kept.{AreCovered}
-use Rattle.world_core.specs.Objects.{IsGrowth, entries_of}
+use Rattle.request_run.specs.Served.{AreCovered}
+use Rattle.request_run.specs.Entries.{IsGrowth, entries_of}
 use Rattle.world_core.proofs.Calls.{on_any}
 use Rattle.world_core.specs.declared.seats.Seat.{Seat}
 use Rattle.world_core.proofs.turns.go_on.Goals as goal

@@ -1,8 +1,8 @@
 use Rattle.std.proofs.Common.{◌∙◌, Some, ap, sym}
-use Rattle.world_core.specs.Objects.{entries_of}
+use Rattle.request_run.specs.Entries.{entries_of}
 use Rattle.world_core.specs.declared.seats.Seat.{Seat}
 use Rattle.world_core.proofs.Calls.{idle_by, seat_sent}
-use Rattle.world_core.proofs.Rows.{length_entries}
+use Rattle.request_run.proofs.Rows.{length_entries}
 use Rattle.world_core.proofs.turns.start.Goals as goal
 
 pub returns-in_ok-work-in-Send-clause-seat : goal.returns-in_ok-work-in-Send-clause-seat

@@ -1,6 +1,6 @@
 use Rattle.std.proofs.Common.{◌≡◌, []}
 use Rattle.std.proofs.lemmas.Result.{IfOk-weaker}
-use Rattle.world_core.specs.Sound.{IsOpen}
+use Rattle.request_run.specs.Sound.{IsOpen}
 use Rattle.world_core.proofs.Closing.{store_open}
 use Rattle.world_core.proofs.world.new_store.Goals as goal
 

@@ -38,10 +38,6 @@ use Rattle.tree_model.specs.Walk.{Visit, Inode, Entry, Trip, Behind, stay, visit
 use Rattle.path_walk.specs.Areas.{Area, OneKey, FirstRow, Pages, IsArea, walked_areas, trip_areas}
 use Rattle.path_walk.specs.Faults.{node_fault}
 use Rattle.path_walk.specs.Footprint.{on_words, unless_fault, along, nothing_at, inode_at, link_at, entries_at, in_part, in_dir, if_free, child_at, makes, call_areas, if_new, footprint}
-use Rattle.client_core.specs.Ops.{call_of}
-use Rattle.client_core.specs.Plans.{IsOp}
-use Rattle.client_core.specs.declared.plan.Op.{Op}
-use Rattle.client_core.specs.declared.plan.Op.TheVariants as ops
 
 -- the number has eight bytes
 abbrev pub IsWord : ℕ → Type 0
@@ -298,14 +294,3 @@ nodes_fit R S spells id node there = by_row (get S.inodes id) refl
 -- what may be read in rows
 pub area_fits : (C : Settings) (R : List Row) (S : TypedRows) (q : Request) → Spells R S → RequestFits q → (area : Area) → IsArea area (footprint C (tree_of S) q) → AreaFits area
 area_fits C R S q spells h area there = fits_at (footprint C (tree_of S) q) area (footprint_fits C (tree_of S) (nodes_fit R S spells) q h) there
-
--- the base of an operation's call
-pub op_fits : (step : Op) → IsOp step → BaseFits (call_of step)
-op_fits (ops.Mkdir stamp place mode layout) h = let b : place.base < 2 ^ 36 = h.1.base_below in omega arith
-op_fits (ops.Create stamp place mode layout) h = let b : place.base < 2 ^ 36 = h.1.base_below in omega arith
-op_fits (ops.Symlink stamp place target) h = let b : place.base < 2 ^ 36 = h.1.base_below in omega arith
-op_fits (ops.Setattr stamp place changes) h = let b : place.base < 2 ^ 36 = h.1.base_below in omega arith
-op_fits (ops.Lookup stamp place) h = let b : place.base < 2 ^ 36 = h.1.base_below in omega arith
-op_fits (ops.Stat stamp place) h = let b : place.base < 2 ^ 36 = h.1.base_below in omega arith
-op_fits (ops.List stamp place) h = let b : place.base < 2 ^ 36 = h.1.base_below in omega arith
-op_fits (ops.Readlink stamp place) h = let b : place.base < 2 ^ 36 = h.1.base_below in omega arith

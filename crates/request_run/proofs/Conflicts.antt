@@ -16,18 +16,17 @@ use Rattle.kv_store.specs.Journal.{first_later}
 use Rattle.kv_store.specs.Later.{IsFirst, IsFirstLater}
 use Rattle.kv_store.proofs.JournalLemmas.{IsAscending-after_all}
 use Rattle.kv_store.proofs.LaterLemmas.{first_later_first}
-use Rattle.path_walk.specs.Sound.{IsSoundEntry}
 use Rattle.row_tree.specs.Opening.{opening_bytes}
 use Rattle.txn_task.specs.declared.messages.Entry.{Entry}
 use Rattle.meta_task.specs.Task.{TaskView}
-use Rattle.run_record.specs.Legal.{journal_rows, tree_at, reads_of, writes_of}
+use Rattle.run_record.specs.Legal.{journal_rows, tree_at, writes_of}
 use Rattle.run_record.specs.Outcomes.{version_before}
 use Rattle.run_record.specs.Receipts.{IsWritten, NamesLater, AreConflicts}
-use Rattle.world_core.specs.Kept.{IsBegun, last_version}
-use Rattle.world_core.specs.Sound.{IsSoundJournal}
-use Rattle.world_core.proofs.Covered.{equal_key, held_touched}
-use Rattle.world_core.proofs.Fitting.{RequestFits}
-use Rattle.world_core.proofs.History.{rows_tree}
+use Rattle.request_run.specs.Served.{IsBegun, last_version}
+use Rattle.request_run.specs.Sound.{IsSoundJournal}
+use Rattle.request_run.proofs.Covered.{equal_key, held_touched}
+use Rattle.request_run.proofs.Fitting.{RequestFits}
+use Rattle.request_run.proofs.History.{rows_tree}
 
 pub AreConflicts-push : (C : Settings) (es : List Entry) (request : Request) (floor : ℕ) (pairs : List (ℕ × Key)) (p : ℕ × Key) → AreConflicts C es request floor pairs → NamesLater C es request (last_version floor pairs) p → AreConflicts C es request floor (pairs ++ p ∷ [])
 AreConflicts-push C es request floor [] p h n = (n, tt)

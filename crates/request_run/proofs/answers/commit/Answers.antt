@@ -1,10 +1,10 @@
 use Rattle.std.proofs.Common.{◌∙◌, sym, subst, ap, ◌+◌}
 use Rattle.conflict_sets.specs.Reads.{Agrees}
 use Rattle.kv_store.specs.Causes.{HasCause}
-use Rattle.world_core.specs.Objects.{entries_of}
-use Rattle.world_core.proofs.Answering.{cause_keyed, cause_same, rows_are}
-use Rattle.world_core.proofs.Rows.{entries-push, later_same, length_entries}
-use Rattle.world_core.proofs.answers.commit.Goals as goal
+use Rattle.request_run.specs.Entries.{entries_of}
+use Rattle.request_run.proofs.Answering.{cause_keyed, cause_same, rows_are}
+use Rattle.request_run.proofs.Rows.{entries-push, later_same, length_entries}
+use Rattle.request_run.proofs.answers.commit.Goals as goal
 
 pub commit-requires-clause-agreed : goal.commit-requires-clause-agreed
 commit-requires-clause-agreed c = subst (λ rows. Agrees rows c.args.entry.reads) (sym (rows_are c.args.store.now c.args.snapshot c.requires.open)) c.requires.agreed

@@ -1,6 +1,6 @@
 use Rattle.std.proofs.Common.{refl}
-use Rattle.world_core.proofs.Answering.{page_same}
-use Rattle.world_core.proofs.answers.range.Goals as goal
+use Rattle.request_run.proofs.Answering.{page_same}
+use Rattle.request_run.proofs.answers.range.Goals as goal
 
 pub returns : goal.returns
 returns c =

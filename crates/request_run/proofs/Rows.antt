@@ -12,8 +12,8 @@ use Rattle.path_walk.specs.Sound.{IsSoundEntry}
 use Rattle.row_tree.specs.HasTree.{AreWellFormed}
 use Rattle.txn_task.specs.declared.messages.Entry.{Entry}
 use Rattle.run_record.specs.Legal.{reads_of, writes_of}
-use Rattle.world_core.specs.Objects.{entries_of}
-use Rattle.world_core.specs.Sound.{IsSoundJournal, IsOpen}
+use Rattle.request_run.specs.Entries.{entries_of}
+use Rattle.request_run.specs.Sound.{IsSoundJournal, IsOpen}
 
 -- ---- lists
 

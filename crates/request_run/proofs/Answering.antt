@@ -1,5 +1,5 @@
 -- What the store answers, over the entries alone.
-use Rattle.std.proofs.Common.{◌≡◌, ℕ, zero, suc, List, [], ◌∷◌, inl, inr, Option, Some, None, true, false, length, sym, ap, subst, ◌∙◌}
+use Rattle.std.proofs.Common.{◌≡◌, ◌⊎◌, ℕ, zero, suc, List, [], ◌∷◌, inl, inr, Option, Some, None, true, false, length, sym, ap, subst, ◌∙◌}
 use Rattle.std.specs.Prelude.{slice_get}
 use Rattle.std.specs.Ordering.{is_eq}
 use Rattle.std.proofs.lemmas.Bool.{or_cases}
@@ -23,13 +23,15 @@ use Rattle.meta_task.specs.declared.entry.MetaEntry.{MetaEntry}
 use Rattle.path_walk.specs.Sound.{IsSoundEntry}
 use Rattle.row_tree.specs.Opening.{opening_bytes}
 use Rattle.txn_task.specs.Agreeing.{HaveValidKeys}
+use Rattle.txn_task.specs.declared.messages.Ask.{Ask}
+use Rattle.txn_task.specs.declared.messages.Ask.TheVariants as asks
 use Rattle.txn_task.specs.declared.messages.Entry.{Entry}
 use Rattle.run_record.specs.Legal.{journal_rows, reads_of, writes_of}
-use Rattle.world_core.specs.Objects.{entries_of}
-use Rattle.world_core.specs.Ready.{IsKeyed}
-use Rattle.world_core.specs.Sound.{IsOpen, IsSoundJournal}
-use Rattle.world_core.proofs.Covered.{equal_key}
-use Rattle.world_core.proofs.Rows.{length_entries, later_same, rows_same, writer_same}
+use Rattle.request_run.specs.Entries.{entries_of, with_entry}
+use Rattle.request_run.specs.Answered.{IsKeyed}
+use Rattle.request_run.specs.Sound.{IsOpen, IsSoundJournal}
+use Rattle.request_run.proofs.Covered.{equal_key}
+use Rattle.request_run.proofs.Rows.{length_entries, later_same, rows_same, writer_same}
 
 -- the rows at a version
 pub rows_are : (store : Store MetaEntry) (n : ℕ) → IsOpen store → rows_at (λ (m : MetaEntry). m.entry.writes) store.opening store.journal n ≡ journal_rows store.config (entries_of store.journal) n
@@ -81,3 +83,11 @@ pub cause_same : (store : Store MetaEntry) (snapshot : ℕ) (reads : ReadSet) (w
 cause_same store snapshot reads why h =
     subst (λ (n : ℕ). HasCause (first_later writes_of (entries_of store.journal) snapshot reads) n why) (sym (length_entries store.journal))
     (subst (λ (o : Option (ℕ × List ℕ)). HasCause o (length store.journal) why) (later_same store.journal snapshot reads) h)
+
+-- ---- the store after an answer
+
+-- the store after a commit's answer, by the ask
+pub answered_grows : (store after : Store MetaEntry) (ask : Ask) (entry : Entry) → ask ≡ asks.Commit entry → (after ≡ store) ⊎ (after ≡ with_entry store entry)
+    → (after ≡ store) ⊎ ((made : Entry) × (ask ≡ asks.Commit made) × (after ≡ with_entry store made))
+answered_grows store after ask entry is (inl same) = inl same
+answered_grows store after ask entry is (inr more) = inr (entry, is, more)

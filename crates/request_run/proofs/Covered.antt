@@ -1,6 +1,6 @@
 -- What was read stays in the footprint as more is read, and holds the keys that conflicts name.
 use Rattle.std.proofs.Common.{◌≡◌, inl, inr, ℕ, Bool, true, false, List, [], ◌∷◌, ◌++◌, refl, sym, ap, subst, ◌∙◌, ◌&&◌}
-use Rattle.std.specs.Prelude.{Option, codes, ◌==◌, length, if◌then◌else◌}
+use Rattle.std.specs.Prelude.{Option, ◌==◌, length, if◌then◌else◌}
 use Rattle.std.specs.List.{list_any}
 use Rattle.std.specs.Ordering.{is_eq, is_lt, is_ge, is_le}
 use Rattle.std.specs.declared.cmp.Ordering.TheVariants.{Less, Greater}
@@ -32,8 +32,8 @@ use Rattle.txn_task.specs.Agreeing.{Agrees}
 use Rattle.txn_task.specs.Transactions.{with_key, with_range}
 use Rattle.txn_task.specs.declared.messages.Ask.TheVariants as asks
 use Rattle.run_record.specs.Touched.{IsTouched, AreTouched, AreKeysTouched, AreRangesTouched}
-use Rattle.world_core.specs.Kept.{IsCovered}
-use Rattle.world_core.proofs.Fitting.{AreaFits, RequestFits, area_fits}
+use Rattle.request_run.specs.Served.{IsCovered}
+use Rattle.request_run.proofs.Fitting.{AreaFits, RequestFits, area_fits}
 
 -- ---- one more read
 

@@ -1,4 +1,4 @@
-//! The store's part of a turn.
+//! One ask, answered by the store.
 
 ghost use Rattle.std.specs.Prelude.{◌≡◌, ◌⊎◌, ◌≤◌, ℕ, length, IfOk, IfErr, OnOk};
 ghost use Rattle.conflict_sets.specs.Reads.{Agrees};
@@ -11,10 +11,9 @@ ghost use Rattle.run_record.specs.Legal.{journal_rows, writes_of};
 ghost use Rattle.txn_task.specs.declared.messages.Answer.TheVariants as answers;
 ghost use Rattle.txn_task.specs.declared.messages.Ask.{Ask};
 ghost use Rattle.txn_task.specs.declared.messages.Entry.{Entry};
-ghost use Rattle.world_core.specs.Answered.{HasKey};
-ghost use Rattle.world_core.specs.Objects.{entries_of, with_entry};
-ghost use Rattle.world_core.specs.Ready.{IsAnswer, IsKeyed, MayAnswer, Tells};
-ghost use Rattle.world_core.specs.Sound.{IsOpen, IsSoundJournal};
+ghost use Rattle.request_run.specs.Answered.{HasKey, IsAnswer, IsKeyed, MayAnswer, Tells};
+ghost use Rattle.request_run.specs.Entries.{entries_of, with_entry};
+ghost use Rattle.request_run.specs.Sound.{IsOpen, IsSoundJournal};
 
 use fs_base::{Memory, Text};
 use key_schema::{Key, KeyError};
@@ -24,7 +23,7 @@ use std::alloc::Global;
 use txn_task::{Answer, Ask, Entry};
 
 /// Tells what every store keeps that began with the root alone. It does nothing.
-pub(crate) fn sound_store(store: &KvState<MetaEntry>)
+pub fn sound_store(store: &KvState<MetaEntry>)
     requires { IsOpen store.now }
     ensures sound { IsSoundJournal store.now.config (entries_of store.now.journal) }
     ensures few { length store.now.journal ≤ 200000 }
@@ -142,7 +141,7 @@ fn commit_answer(
 }
 
 /// One ask, answered by the store at the snapshot.
-pub(crate) fn answer(
+pub fn answer(
     alloc: Global,
     store: &mut KvState<MetaEntry>,
     snapshot: u64,

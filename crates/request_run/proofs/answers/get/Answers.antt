@@ -1,7 +1,7 @@
 use Rattle.std.proofs.Common.{◌∙◌, refl}
 use Rattle.key_schema.specs.Keys.{spelled_key}
-use Rattle.world_core.proofs.Answering.{value_same, writer_is}
-use Rattle.world_core.proofs.answers.get.Goals as goal
+use Rattle.request_run.proofs.Answering.{value_same, writer_is}
+use Rattle.request_run.proofs.answers.get.Goals as goal
 
 pub returns : goal.returns
 returns c =

@@ -1,5 +1,5 @@
 -- What a call leaves of the kept replies: an update changes none, before its own is kept.
-use Rattle.std.proofs.Common.{◌≡◌, ◌≢◌, ℕ, ◌<◌, ◌==◌, nat_lt, Bool, true, false, cond, List, refl, ap, subst, ◌∙◌, arith, ne_eqb, le-ltb, MatchOption}
+use Rattle.std.proofs.Common.{◌≡◌, ◌≢◌, ℕ, ◌<◌, ◌==◌, Bool, true, false, cond, List, refl, ap, subst, ◌∙◌, MatchOption}
 use Rattle.std.specs.Prelude.{Option, Some, None, Result, Ok, Err, ⊤}
 use Rattle.std.specs.FinMap.{get}
 use Rattle.fs_base.specs.Config.{Settings}

@@ -1,0 +1,4 @@
+pub mod Answered
+pub mod Entries
+pub mod Served
+pub mod Sound
