@@ -2,3 +2,4 @@ pub mod Awaiting
 pub mod Client
 pub mod Ops
 pub mod Plans
+pub mod Replay

@@ -50,6 +50,10 @@ pub record IsScript (servers : ℕ) (script : Script) : Type 0 where
   pub short : length script.ops ≤ 4000
   pub valid : All IsOp script.ops
 
+-- the id isn't the nil one
+abbrev pub HasId : Script → Type 0
+HasId script = 1 ≤ script.id.0
+
 -- clients with one id are one
 abbrev pub AreDistinct : List Script → Type 0
 AreDistinct scripts = (j k : ℕ) (a b : Script) → slice_get scripts j ≡ Some a → slice_get scripts k ≡ Some b → a.id ≡ b.id → j ≡ k
@@ -73,6 +77,7 @@ pub record IsPlan (plan : Plan) : Type 0 where
   pub some : 1 ≤ length plan.clients
   pub few : length plan.clients ≤ 64
   pub scripts : All (IsScript plan.config.servers) plan.clients
+  pub ids : All HasId plan.clients
   pub distinct : AreDistinct plan.clients
   pub short : ops_in plan.clients ≤ 4000
   pub schedule : IsSchedule (length plan.clients) plan.schedule

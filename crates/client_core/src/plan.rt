@@ -56,7 +56,7 @@ pub enum Op {
 /// What a client does, in order.
 #[derive(Debug, Drop)]
 pub struct Script {
-    /// No two clients of a plan have the same.
+    /// No two clients of a plan have the same, and none has the nil one.
     pub id: ClientId,
     /// The server that it sends to.
     pub home: u8,

@@ -9,14 +9,17 @@ use Rattle.std.proofs.lemmas.Option.{same_Some}
 use Rattle.fs_base.specs.Config.{Settings}
 use Rattle.fs_base.specs.declared.call.Call.{Call}
 use Rattle.fs_base.specs.declared.call.Request.{Request}
+use Rattle.fs_base.specs.declared.code.Code.TheVariants as codes
 use Rattle.fs_base.specs.declared.ids.ClientId.{ClientId}
 use Rattle.fs_base.specs.declared.reply.Reply.{Reply}
+use Rattle.fs_base.specs.declared.reply.Reply.TheVariants.{Refused}
 use Rattle.key_schema.specs.declared.key.Key.{Key}
 use Rattle.tree_model.specs.declared.kept.KeptReply.{KeptReply}
 use Rattle.tree_model.specs.Calls.{apply, is_built, is_query}
 use Rattle.tree_model.specs.Effects.{settled_by}
 use Rattle.tree_model.specs.Tree.{Tree, new_tree}
 use Rattle.txn_task.specs.declared.messages.Entry.{Entry}
+use Rattle.txn_task.specs.declared.outcome.Outcome.{Outcome}
 use Rattle.txn_task.specs.declared.outcome.Receipt.{Receipt}
 use Rattle.client_core.specs.Ops.{call_of, request_of}
 use Rattle.client_core.specs.Plans.{IsPlan, ops_in}
@@ -26,8 +29,11 @@ use Rattle.client_core.specs.declared.plan.Plan.{Plan}
 use Rattle.client_core.specs.declared.plan.Script.{Script}
 use Rattle.histories.proofs.Versions.{reply_at, tree_next}
 use Rattle.run_record.specs.Legal.{AreReplies, EntryAt, tree_at}
-use Rattle.run_record.specs.Receipts.{AreConflicts, AreReceipts, Follow, IsOf, IsSeen, IsSection, NamesEntry, Rises, fronts_of}
+use Rattle.run_record.specs.Outcomes.{last_version, version_before, IsSeen, IsTold, NamesEntry, Shows}
+use Rattle.run_record.specs.Follow.{Follow}
+use Rattle.run_record.specs.Receipts.{AreConflicts, AreReceipts, IsOf, IsSection, Rises, front_of, fronts_of, outcome_of}
 use Rattle.run_record.specs.Replies.{replies_text}
+use Rattle.run_record.specs.ReplyText.{text_of}
 use Rattle.run_record.specs.Right.{AreSections, IsNoRefusal, IsRight, IsRightEntry}
 use Rattle.run_record.specs.declared.run.Listed.{Listed}
 use Rattle.run_record.specs.declared.run.Record.{Record}
@@ -35,7 +41,9 @@ use Rattle.world_core.proofs.Growth.{EntryAt_within}
 use Rattle.meta_top.specs.Alone.{commits, listed, receipt_of, receipts_from, receipts_of, version_after}
 use Rattle.meta_top.specs.Top.{IsRunOf}
 use Rattle.meta_top.proofs.Marks.{IsNewIn, entry_mark, kept_after, length_free, told_mark}
-use Rattle.meta_top.proofs.Naming.{AreNamedFrom, naming, journal_short, front_above, named_rest, of_commit, of_seen, own_entry, place_next, version_seen}
+use Rattle.run_record.proofs.Replaying.{follows}
+use Rattle.run_record.proofs.Served.{served}
+use Rattle.run_record.proofs.Naming.{AreNamedFrom, naming, journal_short, entry_above, front_above, named_rest, of_commit, of_seen, own_entry, place_next, rises_rest, version_seen}
 
 -- ---- requests and receipts by their parts
 
@@ -60,9 +68,11 @@ same_receipt a b op number server stamp call reply committed version conflicts g
     of_five (λ (r : Reply) (c : Bool) (v : ℕ) (cs : List (ℕ × Key)) (g : List (ℕ × ℕ)). record b { reply = r; committed = c; version = v; conflicts = cs; gone = g }) a.reply b.reply a.committed b.committed a.version b.version a.conflicts b.conflicts a.gone b.gone reply committed version conflicts gone in
     first ∙ others
 
-same_listed : (a b : Listed) → a.client ≡ b.client → a.fronts ≡ b.fronts → a.receipt ≡ b.receipt → a ≡ b
-same_listed a b client fronts receipt =
-    ap (λ n. record a { client = n }) client ∙ (ap (λ (ns : List ℕ). record a { client = b.client; fronts = ns }) fronts ∙ ap (λ (r : Receipt). record b { receipt = r }) receipt)
+same_listed : (a b : Listed) → a.client ≡ b.client → a.fronts ≡ b.fronts → a.receipt ≡ b.receipt → a.text ≡ b.text → a ≡ b
+same_listed a b client fronts receipt text =
+    ap (λ n. record a { client = n }) client
+    ∙ (ap (λ (ns : List ℕ). record a { client = b.client; fronts = ns }) fronts
+    ∙ (ap (λ (r : Receipt). record a { client = b.client; fronts = b.fronts; receipt = r }) receipt ∙ ap (λ (t : List ℕ). record b { text = t }) text))
 
 -- ---- an operation's call is built, and its number is new
 
@@ -98,11 +108,12 @@ record IsNext (C : Settings) (journal : List Entry) (script : Script) (op v : �
   next : tree_at C journal l.receipt.version ≡ (apply C (tree_at C journal v) (request_of script op step) 0).0
 
 -- a receipt with the right reply, mark and version is the one
-made : (C : Settings) (script : Script) (op v : ℕ) (step : Op) (reply : Reply) (l : Listed) → l.client ≡ 0 → l.fronts ≡ fronts_of C v → l.receipt.op ≡ op → IsOf (request_of script op step) l.receipt → l.receipt.gone ≡ []
+made : (C : Settings) (script : Script) (op v : ℕ) (step : Op) (reply : Reply) (l : Listed) → l.client ≡ 0 → l.fronts ≡ fronts_of C v → l.text ≡ text_of l.receipt.call l.receipt.reply → l.receipt.op ≡ op → IsOf (request_of script op step) l.receipt → l.receipt.gone ≡ []
     → l.receipt.conflicts ≡ [] → l.receipt.reply ≡ reply → l.receipt.committed ≡ commits (call_of step) reply → l.receipt.version ≡ version_after v (call_of step) reply → l ≡ listed C v (receipt_of script op v step reply)
-made C script op v step reply l client fronts ordinal is_of gone conflicts replied mark version =
-    same_listed l (listed C v (receipt_of script op v step reply)) client fronts
-    (same_receipt l.receipt (receipt_of script op v step reply) ordinal is_of.number is_of.server is_of.stamp is_of.call replied mark version conflicts gone)
+made C script op v step reply l client fronts text ordinal is_of gone conflicts replied mark version =
+    let receipt : l.receipt ≡ receipt_of script op v step reply =
+    same_receipt l.receipt (receipt_of script op v step reply) ordinal is_of.number is_of.server is_of.stamp is_of.call replied mark version conflicts gone in
+    same_listed l (listed C v (receipt_of script op v step reply)) client fronts receipt (text ∙ ap (λ (r : Receipt). text_of r.call r.reply) receipt)
 
 module _ (C : Settings) (attempts : ℕ) (script : Script) (journal : List Entry) (some : 1 ≤ attempts) (few : length journal < 200000) (replies : AreReplies C (new_tree C) journal)
     (own : (place : ℕ) (e : Entry) → EntryAt journal place e → IsOwn script e) where
@@ -111,21 +122,32 @@ module _ (C : Settings) (attempts : ℕ) (script : Script) (journal : List Entry
   no_conflict q floor [] mine h = refl
   no_conflict q floor (pair ∷ pairs) mine h = absurd (h.0.other ((own h.0.place h.0.entry h.0.at).client ∙ sym mine))
 
+  -- without a conflict no reply is Conflict
+  told_of : (q : Request) (front : ℕ) (o : Outcome) → o.conflicts ≡ [] → (reply : Reply) → Shows C journal q front o reply → IsTold C journal q front o
+  told_of q front o none (Refused codes.Conflict) h =
+      let from : version_before front o.conflicts ≤ o.version = h.from in
+      let before : o.version < last_version front o.conflicts = h.before in
+      let first : version_before front o.conflicts ≡ front = ap (version_before front) none in
+      let last : last_version front o.conflicts ≡ front = ap (last_version front) none in
+      absurd (omega arith)
+  told_of q front o none (Refused codes.StoreFull) h = absurd (let all : length journal ≡ 200000 = h.full in omega arith)
+  told_of q front o none reply h = h
+
   module _ (op v : ℕ) (step : Op) (steps : List Op) (l : Listed) (rest : List Listed) (follow : Follow 0 script op (step ∷ steps) (l ∷ rest)) (h : AreReceipts C attempts journal script.id (l ∷ rest))
       (rises : Rises v (l ∷ rest)) (named : AreNamedFrom journal v (l ∷ rest)) (new : IsNewIn (tree_at C journal v) (request_of script op step)) where
-    request_is : h.0.request ≡ request_of script op step
-    request_is = asked h.0.request (request_of script op step) l.receipt h.0.client_is h.0.is_of follow.2
+    request_is : (served h.0).request ≡ request_of script op step
+    request_is = asked (served h.0).request (request_of script op step) l.receipt (served h.0).client_is (served h.0).is_of follow.2
 
     none : l.receipt.conflicts ≡ []
-    none = no_conflict h.0.request h.0.front l.receipt.conflicts h.0.client_is h.0.conflicts
+    none = no_conflict (served h.0).request (front_of l.fronts) l.receipt.conflicts (served h.0).client_is (served h.0).conflicts
 
     commit_next : l.receipt.committed ≡ true → IsNext C journal script op v step l
     commit_next is =
-        let names : NamesEntry journal h.0.request h.0.front l.receipt = of_commit C attempts journal script.id l h.0 is in
+        let names : NamesEntry journal (served h.0).request (front_of l.fronts) (outcome_of l.receipt) = of_commit C attempts journal script.id l (served h.0) is in
         let place : names.place ≡ v = place_next C attempts journal script.id v l rest h rises named is in
         let at : EntryAt journal v names.entry = subst (λ n. EntryAt journal n names.entry) place names.at in
         let mine : IsOwn script names.entry = own v names.entry at in
-        let entry_is : names.entry.request ≡ request_of script op step = same_request names.entry.request h.0.request names.server names.client names.number names.stamp names.call ∙ request_is in
+        let entry_is : names.entry.request ≡ request_of script op step = same_request names.entry.request (served h.0).request names.server names.client names.number names.stamp names.call ∙ request_is in
         let update : is_query (call_of step) ≡ false = ap (λ (r : Request). is_query r.call) (sym entry_is) ∙ mine.update in
         let length : ℕ = settled_by names.entry.reply in
         let any : apply C (tree_at C journal v) (request_of script op step) length ≡ apply C (tree_at C journal v) (request_of script op step) 0 =
@@ -136,42 +158,36 @@ module _ (C : Settings) (attempts : ℕ) (script : Script) (journal : List Entry
         let accepted : IsNoRefusal (apply C (tree_at C journal v) (request_of script op step) 0).1 = subst IsNoRefusal (names.reply ∙ sym reply) mine.accepted in
         let mark : commits (call_of step) (apply C (tree_at C journal v) (request_of script op step) 0).1 ≡ true = entry_mark (request_of script op step) (apply C (tree_at C journal v) (request_of script op step) 0).1 update accepted in
         let version : l.receipt.version ≡ v + 1 = names.version ∙ ap (λ n. n + 1) place in
-        let above : v ≤ h.0.front = front_above C attempts journal script.id v l rest h.0 rises in
-        let later : h.0.front ≤ names.place = names.above in
-        let front : h.0.front ≡ v = omega arith in
+        let above : v ≤ front_of l.fronts = front_above C attempts journal script.id v l rest (served h.0) rises in
+        let later : front_of l.fronts ≤ names.place = entry_above C attempts journal script.id l (served h.0) is in
+        let front : front_of l.fronts ≡ v = omega arith in
         record {
-          same = made C script op v step (apply C (tree_at C journal v) (request_of script op step) 0).1 l follow.0 (h.0.fronts ∙ ap (fronts_of C) front) follow.1 follow.2 follow.3 none (sym reply) (is ∙ sym mark)
+          same = made C script op v step (apply C (tree_at C journal v) (request_of script op step) 0).1 l follow.0 (h.0.fronts ∙ ap (fronts_of C) front) h.0.text follow.1 follow.2 follow.3 none (sym reply) (is ∙ sym mark)
               (version ∙ ap (λ b. cond b (v + 1) v) (sym mark));
           next = ap (tree_at C journal) (version ∙ add-one v) ∙ (tree_next C (new_tree C) journal v names.entry at ∙ (ap (λ (r : Request). (apply C (tree_at C journal v) r length).0) entry_is ∙ ap (λ (p : Tree × Reply). p.0) any));
         }
 
     seen_told : l.receipt.committed ≡ false → apply C (tree_at C journal v) (request_of script op step) 0 ≡ (tree_at C journal v, l.receipt.reply)
     seen_told is =
-        let seen : IsSeen C attempts journal h.0.request h.0.front l.receipt = of_seen C attempts journal script.id l h.0 is in
+        let seen : IsSeen C journal (served h.0).request (front_of l.fronts) (outcome_of l.receipt) = of_seen C attempts journal script.id l (served h.0) is in
         let version : l.receipt.version ≡ v = version_seen C attempts journal script.id v l rest h rises named is in
-        elim seen.told [
-          | inl told ↦
-              (let now : apply C (tree_at C journal v) h.0.request 0 ≡ (tree_at C journal v, l.receipt.reply) = subst (λ n. apply C (tree_at C journal n) h.0.request 0 ≡ (tree_at C journal n, l.receipt.reply)) version (told 0) in
-              subst (λ (r : Request). apply C (tree_at C journal v) r 0 ≡ (tree_at C journal v, l.receipt.reply)) request_is now)
-          | inr other ↦ elim other [
-            | inl spent ↦ absurd (let spent_all : length l.receipt.conflicts ≡ attempts = spent.1 in let nothing : length l.receipt.conflicts ≡ 0 = ap length none in omega arith)
-            | inr full ↦ absurd (let all : length journal ≡ 200000 = full.1 in omega arith)
-          ]
-        ]
+        let shown : IsTold C journal (served h.0).request (front_of l.fronts) (outcome_of l.receipt) = told_of (served h.0).request (front_of l.fronts) (outcome_of l.receipt) none l.receipt.reply seen.shown in
+        let now : apply C (tree_at C journal v) (served h.0).request 0 ≡ (tree_at C journal v, l.receipt.reply) = subst (λ n. apply C (tree_at C journal n) (served h.0).request 0 ≡ (tree_at C journal n, l.receipt.reply)) version (shown.told 0) in
+        subst (λ (r : Request). apply C (tree_at C journal v) r 0 ≡ (tree_at C journal v, l.receipt.reply)) request_is now
 
     seen_next : l.receipt.committed ≡ false → IsNext C journal script op v step l
     seen_next is =
-        let seen : IsSeen C attempts journal h.0.request h.0.front l.receipt = of_seen C attempts journal script.id l h.0 is in
+        let seen : IsSeen C journal (served h.0).request (front_of l.fronts) (outcome_of l.receipt) = of_seen C attempts journal script.id l (served h.0) is in
         let version : l.receipt.version ≡ v = version_seen C attempts journal script.id v l rest h rises named is in
         let told : apply C (tree_at C journal v) (request_of script op step) 0 ≡ (tree_at C journal v, l.receipt.reply) = seen_told is in
         let reply : (apply C (tree_at C journal v) (request_of script op step) 0).1 ≡ l.receipt.reply = ap (λ (p : Tree × Reply). p.1) told in
         let mark : commits (call_of step) l.receipt.reply ≡ false = told_mark C (tree_at C journal v) (request_of script op step) l.receipt.reply (built step) new told in
         let mark_is : commits (call_of step) (apply C (tree_at C journal v) (request_of script op step) 0).1 ≡ false = ap (commits (call_of step)) reply ∙ mark in
-        let above : v ≤ h.0.front = front_above C attempts journal script.id v l rest h.0 rises in
-        let later : h.0.front ≤ l.receipt.version = seen.above in
-        let front : h.0.front ≡ v = omega arith in
+        let above : v ≤ front_of l.fronts = front_above C attempts journal script.id v l rest (served h.0) rises in
+        let later : front_of l.fronts ≤ l.receipt.version = seen.above in
+        let front : front_of l.fronts ≡ v = omega arith in
         record {
-          same = made C script op v step (apply C (tree_at C journal v) (request_of script op step) 0).1 l follow.0 (h.0.fronts ∙ ap (fronts_of C) front) follow.1 follow.2 follow.3 none (sym reply) (is ∙ sym mark_is)
+          same = made C script op v step (apply C (tree_at C journal v) (request_of script op step) 0).1 l follow.0 (h.0.fronts ∙ ap (fronts_of C) front) h.0.text follow.1 follow.2 follow.3 none (sym reply) (is ∙ sym mark_is)
               (version ∙ ap (λ b. cond b (v + 1) v) (sym mark_is));
           next = ap (tree_at C journal) version ∙ sym (ap (λ (p : Tree × Reply). p.0) told);
         }
@@ -194,7 +210,7 @@ module _ (C : Settings) (attempts : ℕ) (script : Script) (journal : List Entry
       let one : IsNext C journal script op v step l = one_next op v step steps l rest follow h rises named new in
       let version : l.receipt.version ≡ version_after v (call_of step) (apply C (tree_at C journal v) (request_of script op step) 0).1 = ap (λ (x : Listed). x.receipt.version) one.same in
       let others : rest ≡ receipts_from C script (tree_at C journal l.receipt.version) (op + 1) l.receipt.version steps =
-      along (op + 1) l.receipt.version steps rest follow.4 h.1 rises.2 (named_rest C attempts journal script.id v l rest h rises named) (kept_next op v step steps l rest follow h rises named new) in
+      along (op + 1) l.receipt.version steps rest follow.4 h.1 (rises_rest v l rest rises) (named_rest C attempts journal script.id v l rest h rises named) (kept_next op v step steps l rest follow h rises named new) in
       ap (λ (x : Listed). x ∷ rest) one.same
       ∙ ap (λ (xs : List Listed). listed C v (receipt_of script op v step (apply C (tree_at C journal v) (request_of script op step) 0).1) ∷ xs)
       (others
@@ -212,10 +228,11 @@ follow_length k script op (step ∷ steps) (l ∷ rest) follow = ap suc (follow_
 of_section : (C : Settings) (attempts : ℕ) (script : Script) (journal : List Entry) (own : List Listed) → 1 ≤ attempts → length script.ops ≤ 4000 → AreReplies C (new_tree C) journal
     → ((place : ℕ) (e : Entry) → EntryAt journal place e → IsRightEntry C journal place e) → IsSection C attempts journal 0 script own → AreNamedFrom journal 0 own → own ≡ receipts_of C script
 of_section C attempts script journal own some short replies entries section named =
-    let count : length own ≡ length script.ops = follow_length 0 script 0 script.ops own section.follow in
+    let follow : Follow 0 script 0 script.ops own = follows C attempts journal 0 script own section in
+    let count : length own ≡ length script.ops = follow_length 0 script 0 script.ops own follow in
     let few : length journal ≤ 0 + length own = journal_short C attempts journal script.id 0 own section.each section.rises named in
     let kept : KeepsTo (new_tree C) script.id 0 = subst (λ (o : Option KeptReply). MatchOption o ⊤ (λ k. k.number ≤ 0)) (sym (get-empty nat_cmp script.id.0)) tt in
-    along C attempts script journal some (omega arith) replies mine 0 0 script.ops own section.follow section.each section.rises named kept
+    along C attempts script journal some (omega arith) replies mine 0 0 script.ops own follow section.each section.rises named kept
   where
     mine : (place : ℕ) (e : Entry) → EntryAt journal place e → IsOwn script e
     mine place e at = record {

@@ -2,4 +2,3 @@ pub mod Alone
 pub mod Due
 pub mod Effects
 pub mod Marks
-pub mod Naming

@@ -10,6 +10,7 @@ use Rattle.txn_task.specs.declared.outcome.Receipt.{Receipt}
 use Rattle.client_core.specs.Ops.{call_of, stamp_of, request_of}
 use Rattle.client_core.specs.declared.plan.Op.{Op}
 use Rattle.client_core.specs.declared.plan.Script.{Script}
+use Rattle.run_record.specs.ReplyText.{text_of}
 use Rattle.run_record.specs.Receipts.{fronts_of}
 use Rattle.run_record.specs.declared.run.Listed.{Listed}
 
@@ -43,7 +44,7 @@ receipt_of script op version step reply =
 
 -- what the one client, 0, keeps; it has seen all versions so far
 abbrev pub listed : Settings → ℕ → Receipt → Listed
-listed C version receipt = record { client = 0; fronts = fronts_of C version; receipt = receipt }
+listed C version receipt = record { client = 0; fronts = fronts_of C version; receipt = receipt; text = text_of receipt.call receipt.reply }
 
 -- the receipts of the operations from op on, over the tree at this version; none of them settles a length
 unfoldable pub receipts_from : Settings → Script → Tree → ℕ → ℕ → List Op → List Listed

@@ -6,6 +6,7 @@ use Rattle.std.proofs.lemmas.Bool.{or_cases}
 use Rattle.conflict_sets.specs.Keys.{key_cmp}
 use Rattle.conflict_sets.specs.Held.{is_written_key}
 use Rattle.conflict_sets.specs.Rows.{IsAscending}
+use Rattle.conflict_sets.specs.declared.sets.ReadSet.{ReadSet}
 use Rattle.conflict_sets.specs.declared.sets.Write.{Write}
 use Rattle.fs_base.specs.Config.{Settings}
 use Rattle.fs_base.specs.declared.call.Request.{Request}
@@ -19,22 +20,13 @@ use Rattle.row_tree.specs.Opening.{opening_bytes}
 use Rattle.txn_task.specs.declared.messages.Entry.{Entry}
 use Rattle.meta_task.specs.Task.{TaskView}
 use Rattle.run_record.specs.Legal.{journal_rows, tree_at, writes_of}
+use Rattle.run_record.specs.Outcomes.{version_before}
 use Rattle.run_record.specs.Receipts.{IsWritten, NamesLater, AreConflicts}
 use Rattle.request_run.specs.Served.{IsBegun, last_version}
 use Rattle.request_run.specs.Sound.{IsSoundJournal}
 use Rattle.request_run.proofs.Covered.{equal_key, held_touched}
 use Rattle.request_run.proofs.Fitting.{RequestFits}
 use Rattle.request_run.proofs.History.{rows_tree}
-
--- conflicts rise
-pub last_version_above : (C : Settings) (es : List Entry) (request : Request) (floor : ℕ) (pairs : List (ℕ × Key)) → AreConflicts C es request floor pairs → floor ≤ last_version floor pairs
-last_version_above C es request floor [] h = omega arith
-last_version_above C es request floor (p ∷ pairs) h =
-    let rest : p.0 ≤ last_version p.0 pairs = last_version_above C es request p.0 pairs h.1 in
-    let a : floor ≤ h.0.snapshot = h.0.from in
-    let b : h.0.snapshot ≤ h.0.place = h.0.later in
-    let c : p.0 ≡ h.0.place + 1 = h.0.version in
-    omega arith
 
 pub AreConflicts-push : (C : Settings) (es : List Entry) (request : Request) (floor : ℕ) (pairs : List (ℕ × Key)) (p : ℕ × Key) → AreConflicts C es request floor pairs → NamesLater C es request (last_version floor pairs) p → AreConflicts C es request floor (pairs ++ p ∷ [])
 AreConflicts-push C es request floor [] p h n = (n, tt)
@@ -43,6 +35,25 @@ AreConflicts-push C es request floor (q ∷ pairs) p h n = (h.0, AreConflicts-pu
 pub last_version-push : (floor : ℕ) (pairs : List (ℕ × Key)) (p : ℕ × Key) → last_version floor (pairs ++ p ∷ []) ≡ p.0
 last_version-push floor [] p = refl
 last_version-push floor (q ∷ pairs) p = last_version-push q.0 pairs p
+
+pub version_before-push : (floor : ℕ) (pairs : List (ℕ × Key)) (p : ℕ × Key) → version_before floor (pairs ++ p ∷ []) ≡ last_version floor pairs
+version_before-push floor [] p = refl
+version_before-push floor (q ∷ []) p = refl
+version_before-push floor (q ∷ next ∷ pairs) p = version_before-push q.0 (next ∷ pairs) p
+
+-- a lower floor counts only where there is no conflict
+pub last_version_low : (floor : ℕ) (pairs : List (ℕ × Key)) → last_version 0 pairs ≤ last_version floor pairs
+last_version_low floor [] = omega arith
+last_version_low floor (q ∷ pairs) = omega arith
+
+-- a conflict is behind the snapshot
+pub later_above : (journal : List Entry) (snapshot : ℕ) (reads : ReadSet) (version : ℕ) (key : List ℕ) → first_later writes_of journal snapshot reads ≡ Some (version, key) → snapshot < version
+later_above journal snapshot reads version key later =
+    let first : IsFirstLater writes_of journal snapshot reads version key =
+    subst (λ (o : Option (ℕ × List ℕ)). IsFirst writes_of journal snapshot reads o) later (first_later_first writes_of journal snapshot reads) in
+    let behind : snapshot ≤ first.place = first.later in
+    let numbered : version ≡ first.place + 1 = first.numbered in
+    omega arith
 
 written : (writes : List Write) (key : List ℕ) → is_written_key writes key ≡ true → IsWritten writes key
 written [] key e = absurd (let f : false ≡ true = e in cc)

@@ -5,7 +5,6 @@ use Rattle.conflict_sets.specs.declared.sets.ReadSet.{ReadSet}
 use Rattle.fs_base.specs.Config.{Settings}
 use Rattle.fs_base.specs.declared.call.Request.{Request}
 use Rattle.fs_base.specs.declared.ids.ClientId.{ClientId}
-use Rattle.key_schema.specs.declared.key.Key.{Key}
 use Rattle.path_walk.specs.Footprint.{footprint}
 use Rattle.path_walk.specs.Owed.{HasRead, MayAsk}
 use Rattle.path_walk.specs.Sound.{IsSoundEntry}
@@ -19,6 +18,7 @@ use Rattle.txn_task.specs.declared.messages.Entry.{Entry}
 use Rattle.meta_task.specs.Task.{TaskView}
 use Rattle.meta_task.specs.declared.waiting.Waiting.TheVariants as waits
 use Rattle.run_record.specs.Legal.{EntryAt, journal_rows}
+pub use Rattle.run_record.specs.Outcomes.{last_version}
 use Rattle.run_record.specs.Receipts.{AreConflicts}
 use Rattle.run_record.specs.Touched.{AreTouched}
 
@@ -38,11 +38,8 @@ pub record IsBegun (C : Settings) (journal : List Entry) (client : ClientId) (fl
   pub covered : IsCovered C task.request task.reads
   -- the client has made no entry since
   pub own : (place : ℕ) (entry : Entry) → EntryAt journal place entry → entry.request.client ≡ client → place < task.snapshot
-
--- the version of the last conflict
-abbrev pub last_version : ℕ → List (ℕ × Key) → ℕ
-last_version floor [] = floor
-last_version floor (pair ∷ pairs) = last_version pair.0 pairs
+  -- it isn't one too many
+  pub left : length task.conflicts < task.attempts
 
 pub record IsTask (C : Settings) (attempts : ℕ) (journal : List Entry) (front : ℕ) (task : TaskView) : Type 0 where
   pub config : task.config ≡ C
@@ -53,7 +50,7 @@ pub record IsTask (C : Settings) (attempts : ℕ) (journal : List Entry) (front 
 
 -- what the ask that waits for its answer owes
 abbrev pub IsPending : Settings → TaskView → Ask → Type 0
-IsPending C task asks.Begin = (task.waiting ≡ waits.Beginning) × (task.begun ≡ false)
+IsPending C task asks.Begin = (task.waiting ≡ waits.Beginning) × (task.begun ≡ false) × (length task.conflicts < task.attempts)
 IsPending C task (asks.Get key) = (task.waiting ≡ waits.Reading (asks.Get key)) × (task.begun ≡ true) × MayAsk C (λ T. footprint C T task.request) task.reads (asks.Get key)
 IsPending C task (asks.Range lo hi limit) = (task.waiting ≡ waits.Reading (asks.Range lo hi limit)) × (task.begun ≡ true) × MayAsk C (λ T. footprint C T task.request) task.reads (asks.Range lo hi limit)
 IsPending C task (asks.Commit entry) =

@@ -1,5 +1,8 @@
+pub mod Follow
 pub mod Hex
 pub mod Legal
+pub mod OneClient
+pub mod Outcomes
 pub mod Receipts
 pub mod Replies
 pub mod ReplyText

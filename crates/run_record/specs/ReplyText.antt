@@ -1,5 +1,7 @@
--- The words of a reply.
+-- The words of a reply, and the text of a call with its reply.
 use Rattle.std.specs.Prelude.{ℕ, List, [], ◌∷◌, ◌++◌, map, length, codes, decimal, Bool, true, false}
+use Rattle.fs_base.specs.declared.call.Call.{Call}
+use Rattle.fs_base.specs.declared.call.Call.TheVariants as calls
 use Rattle.fs_base.specs.declared.code.Code.{Code}
 use Rattle.fs_base.specs.declared.code.Code.TheVariants as refusals
 use Rattle.fs_base.specs.declared.code.Limit.{Limit}
@@ -16,7 +18,7 @@ use Rattle.fs_base.specs.declared.reply.FileInfo.{FileInfo}
 use Rattle.fs_base.specs.declared.reply.Reply.{Reply}
 use Rattle.fs_base.specs.declared.reply.Reply.TheVariants as replies
 use Rattle.run_record.specs.Hex.{hex_word}
-use Rattle.run_record.specs.Words.{setting}
+use Rattle.run_record.specs.Words.{joined, setting}
 
 abbrev pub kind_word : Kind → List ℕ
 kind_word kinds.Dir = codes "dir"
@@ -110,3 +112,36 @@ reply_words (replies.Wrote bytes pieces) = setting (codes "bytes=") bytes ∷ se
 reply_words (replies.Data runs) = listed (codes "data") data_word runs
 reply_words (replies.Swept files) = setting (codes "reaped=") files ∷ []
 reply_words (replies.Refused code) = code_words code
+
+abbrev pub call_word : Call → List ℕ
+call_word (calls.Lookup place) = codes "lookup"
+call_word (calls.Stat place) = codes "stat"
+call_word (calls.List place) = codes "list"
+call_word (calls.Readlink place) = codes "readlink"
+call_word (calls.Openr place) = codes "openr"
+call_word (calls.Fstat session) = codes "fstat"
+call_word calls.Doomed = codes "doomed"
+call_word (calls.Mkdir place mode layout) = codes "mkdir"
+call_word (calls.Create place mode layout) = codes "create"
+call_word (calls.Symlink place target) = codes "symlink"
+call_word (calls.Setattr place changes) = codes "setattr"
+call_word (calls.Link from to) = codes "link"
+call_word (calls.Unlink place) = codes "unlink"
+call_word (calls.Rmdir place) = codes "rmdir"
+call_word (calls.Rename from to) = codes "rename"
+call_word (calls.Open place) = codes "open"
+call_word (calls.Extend session place) = codes "extend"
+call_word (calls.Report session end truncs) = codes "report"
+call_word (calls.Fsync session) = codes "fsync"
+call_word (calls.Close session) = codes "close"
+call_word (calls.Truncate session length) = codes "truncate"
+call_word (calls.Purge inode) = codes "purge"
+call_word (calls.Reap inode) = codes "reap"
+call_word (calls.Prune living) = codes "prune"
+call_word (calls.Write session offset len fill) = codes "write"
+call_word (calls.Read inode offset len) = codes "read"
+call_word calls.Sweep = codes "sweep"
+
+-- what a reply line ends with: the call's name, and the reply's words
+abbrev pub text_of : Call → Reply → List ℕ
+text_of call reply = call_word call ++ (32 ∷ joined (reply_words reply))

@@ -6,7 +6,13 @@ abbrev pub spaced : List (List ℕ) → List ℕ
 spaced [] = []
 spaced (word ∷ words) = word ++ (32 ∷ spaced words)
 
--- a space between words, and a line feed
+-- a space between words
+abbrev pub joined : List (List ℕ) → List ℕ
+joined [] = []
+joined (word ∷ []) = word
+joined (word ∷ next ∷ words) = word ++ (32 ∷ joined (next ∷ words))
+
+-- the same, and a line feed
 abbrev pub line : List (List ℕ) → List ℕ
 line [] = 10 ∷ []
 line (word ∷ []) = word ++ 10 ∷ []

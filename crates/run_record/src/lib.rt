@@ -6,7 +6,9 @@ mod replies;
 mod reply_text;
 mod run;
 mod summary;
+mod text;
 
 pub use replies::write_replies;
 pub use run::{Listed, Record, Summary};
 pub use summary::summary_of;
+pub use text::text_of;

@@ -1,12 +1,11 @@
 ghost use Rattle.std.specs.Prelude.{◌≡◌, ◌++◌, ◌∷◌, [], string_bytes, OnOk, IfOk};
 ghost use Rattle.std.specs.List.{flat_map};
-ghost use Rattle.run_record.specs.Replies.{call_word, conflict_line, conflict_lines, end_line, gone_line, header_line, mark_word, receipt_lines, replies_text, reply_line, source_words};
+ghost use Rattle.run_record.specs.Replies.{conflict_line, conflict_lines, end_line, gone_line, header_line, mark_word, receipt_front, receipt_lines, receipt_words, replies_text, source_words};
 ghost use Rattle.run_record.specs.Words.{number_word, spaced};
 
 use crate::hex::push_hex;
-use crate::reply_text::push_reply;
 use crate::run::{Listed, Record, Summary};
-use fs_base::{Call, Config, Memory};
+use fs_base::{Config, Memory};
 use key_schema::Key;
 use std::alloc::{AllocError, Global};
 use std::fmt::Write;
@@ -16,11 +15,19 @@ use txn_task::Receipt;
 pub fn write_replies(alloc: Global, run: &Record) -> Result<Vec<u8>, Memory>
     ensures { IfOk result (λ bytes. bytes.items ≡ replies_text run.now) }
 {
-    let mut out = String::new(alloc);
-    push_header(&mut out, &run.config)?;
+    let mut out = header(alloc, &run.config)?;
     push_receipts(&mut out, alloc, run.receipts.as_slice())?;
-    push_end(&mut out, &run.summary)?;
-    Ok(out.into_bytes())
+    let end = end(alloc, &run.summary)?;
+    out.extend_from_slice(end.as_slice())?;
+    Ok(out)
+}
+
+fn header(alloc: Global, config: &Config) -> Result<Vec<u8>, AllocError>
+    ensures { IfOk result (λ bytes. bytes.items ≡ header_line config.now) }
+{
+    let mut line = String::new(alloc);
+    push_header(&mut line, config)?;
+    Ok(line.into_bytes())
 }
 
 fn push_header(out: &mut String, config: &Config) -> Result<(), AllocError>
@@ -37,8 +44,8 @@ fn push_header(out: &mut String, config: &Config) -> Result<(), AllocError>
     )
 }
 
-fn push_receipts(out: &mut String, alloc: Global, receipts: &[Listed]) -> Result<(), Memory>
-    ensures { OnOk result (string_bytes out.new ≡ string_bytes out.old ++ flat_map receipt_lines receipts.now) }
+fn push_receipts(out: &mut Vec<u8>, alloc: Global, receipts: &[Listed]) -> Result<(), Memory>
+    ensures { OnOk result (out.new.items ≡ out.old.items ++ flat_map receipt_lines receipts.now) }
 {
     for listed in receipts {
         push_receipt(out, alloc, listed)?;
@@ -47,13 +54,25 @@ fn push_receipts(out: &mut String, alloc: Global, receipts: &[Listed]) -> Result
 }
 
 /// What the request went through, and then its reply.
-fn push_receipt(out: &mut String, alloc: Global, listed: &Listed) -> Result<(), Memory>
-    ensures { OnOk result (string_bytes out.new ≡ string_bytes out.old ++ receipt_lines listed.now) }
+fn push_receipt(out: &mut Vec<u8>, alloc: Global, listed: &Listed) -> Result<(), Memory>
+    ensures { OnOk result (out.new.items ≡ out.old.items ++ receipt_lines listed.now) }
 {
-    push_gone(out, listed.client, &listed.receipt)?;
-    push_conflicts(out, alloc, listed.client, &listed.receipt)?;
-    push_reply_line(out, listed)?;
+    let front = front_of(alloc, listed.client, &listed.receipt)?;
+    out.extend_from_slice(front.as_slice())?;
+    out.extend_from_slice(listed.text.as_slice())?;
+    out.push(b'\n')?;
     Ok(())
+}
+
+/// A receipt's lines up to the text of its reply, whose bytes need not be characters.
+fn front_of(alloc: Global, client: u16, receipt: &Receipt) -> Result<Vec<u8>, Memory>
+    ensures { IfOk result (λ bytes. bytes.items ≡ receipt_front client receipt.now) }
+{
+    let mut front = String::new(alloc);
+    push_gone(&mut front, client, receipt)?;
+    push_conflicts(&mut front, alloc, client, receipt)?;
+    push_receipt_words(&mut front, client, receipt)?;
+    Ok(front.into_bytes())
 }
 
 fn push_gone(out: &mut String, client: u16, receipt: &Receipt) -> Result<(), AllocError>
@@ -122,18 +141,15 @@ fn push_source(out: &mut String, client: u16, receipt: &Receipt) -> Result<(), A
     push_number(out, receipt.number)
 }
 
-fn push_reply_line(out: &mut String, listed: &Listed) -> Result<(), AllocError>
-    ensures { OnOk result (string_bytes out.new ≡ string_bytes out.old ++ reply_line listed.now) }
+fn push_receipt_words(out: &mut String, client: u16, receipt: &Receipt) -> Result<(), AllocError>
+    ensures { OnOk result (string_bytes out.new ≡ string_bytes out.old ++ spaced (receipt_words client receipt.now)) }
 {
-    let receipt = &listed.receipt;
     let mark = mark_word(receipt.committed);
     let version = receipt.version;
-    let call = call_word(&receipt.call);
     out.push_str("reply ")?;
-    push_source(out, listed.client, receipt)?;
+    push_source(out, client, receipt)?;
     push_number(out, receipt.server.map(u64::from))?;
-    write!(out, "{mark} {version} {call} ")?;
-    push_reply(out, &receipt.reply)
+    write!(out, "{mark} {version} ")
 }
 
 /// A number or `-`, and a space.
@@ -152,39 +168,12 @@ fn mark_word(committed: bool) -> &'static str
     if committed { "commit" } else { "seen" }
 }
 
-/// A call's name.
-fn call_word(call: &Call) -> &'static str
-    ensures { result.now ≡ call_word call.now }
+fn end(alloc: Global, summary: &Summary) -> Result<Vec<u8>, AllocError>
+    ensures { IfOk result (λ bytes. bytes.items ≡ end_line summary.now) }
 {
-    match call {
-        Call::Lookup(_) => "lookup",
-        Call::Stat(_) => "stat",
-        Call::List(_) => "list",
-        Call::Readlink(_) => "readlink",
-        Call::Openr(_) => "openr",
-        Call::Fstat(_) => "fstat",
-        Call::Doomed => "doomed",
-        Call::Mkdir { .. } => "mkdir",
-        Call::Create { .. } => "create",
-        Call::Symlink { .. } => "symlink",
-        Call::Setattr { .. } => "setattr",
-        Call::Link { .. } => "link",
-        Call::Unlink(_) => "unlink",
-        Call::Rmdir(_) => "rmdir",
-        Call::Rename { .. } => "rename",
-        Call::Open(_) => "open",
-        Call::Extend { .. } => "extend",
-        Call::Report { .. } => "report",
-        Call::Fsync(_) => "fsync",
-        Call::Close(_) => "close",
-        Call::Truncate { .. } => "truncate",
-        Call::Purge(_) => "purge",
-        Call::Reap(_) => "reap",
-        Call::Prune(_) => "prune",
-        Call::Write { .. } => "write",
-        Call::Read { .. } => "read",
-        Call::Sweep => "sweep",
-    }
+    let mut line = String::new(alloc);
+    push_end(&mut line, summary)?;
+    Ok(line.into_bytes())
 }
 
 fn push_end(out: &mut String, summary: &Summary) -> Result<(), AllocError>

@@ -1,7 +1,7 @@
 ghost use Rattle.std.specs.Prelude.{◌≡◌, ◌++◌, ◌∷◌, [], codes, decimal, string_bytes, OnOk};
 ghost use Rattle.run_record.specs.Hex.{hex_word};
 ghost use Rattle.run_record.specs.ReplyText.{attribute_words, code_words, data_word, doomed_word, entry_word, file_words, flag, kind_word, limit_word, listed, phase_word, reply_words};
-ghost use Rattle.run_record.specs.Words.{line, setting};
+ghost use Rattle.run_record.specs.Words.{joined, setting};
 
 use crate::hex::push_hex;
 use fs_base::{
@@ -11,13 +11,13 @@ use fs_base::{
 use std::alloc::AllocError;
 use std::fmt::Write;
 
-/// The words of a reply, to the end of its line.
+/// The words of a reply.
 pub fn push_reply(out: &mut String, reply: &Reply) -> Result<(), AllocError>
-    ensures { OnOk result (string_bytes out.new ≡ string_bytes out.old ++ line (reply_words reply.now)) }
+    ensures { OnOk result (string_bytes out.new ≡ string_bytes out.old ++ joined (reply_words reply.now)) }
 {
     match reply {
         Reply::Made(id) => push_made(out, id),
-        Reply::Done => out.push_str("done\n"),
+        Reply::Done => out.push_str("done"),
         Reply::Found(id, kind) => push_found(out, id, *kind),
         Reply::Attr(attributes) => push_attributes(out, attributes),
         Reply::Names(entries) => push_entries(out, entries.as_slice()),
@@ -37,18 +37,18 @@ pub fn push_reply(out: &mut String, reply: &Reply) -> Result<(), AllocError>
 }
 
 fn push_made(out: &mut String, id: &InodeId) -> Result<(), AllocError>
-    ensures { OnOk result (string_bytes out.new ≡ string_bytes out.old ++ line (codes "made" ∷ decimal id.now ∷ [])) }
+    ensures { OnOk result (string_bytes out.new ≡ string_bytes out.old ++ joined (codes "made" ∷ decimal id.now ∷ [])) }
 {
     let id = id.get();
-    writeln!(out, "made {id}")
+    write!(out, "made {id}")
 }
 
 fn push_found(out: &mut String, id: &InodeId, kind: Kind) -> Result<(), AllocError>
-    ensures { OnOk result (string_bytes out.new ≡ string_bytes out.old ++ line (codes "found" ∷ decimal id.now ∷ kind_word kind ∷ [])) }
+    ensures { OnOk result (string_bytes out.new ≡ string_bytes out.old ++ joined (codes "found" ∷ decimal id.now ∷ kind_word kind ∷ [])) }
 {
     let id = id.get();
     let kind = kind_word(kind);
-    writeln!(out, "found {id} {kind}")
+    write!(out, "found {id} {kind}")
 }
 
 fn kind_word(kind: Kind) -> &'static str
@@ -62,7 +62,7 @@ fn kind_word(kind: Kind) -> &'static str
 }
 
 fn push_attributes(out: &mut String, attributes: &Attributes) -> Result<(), AllocError>
-    ensures { OnOk result (string_bytes out.new ≡ string_bytes out.old ++ line (attribute_words attributes.now)) }
+    ensures { OnOk result (string_bytes out.new ≡ string_bytes out.old ++ joined (attribute_words attributes.now)) }
 {
     let id = attributes.inode.get();
     let kind = kind_word(attributes.kind);
@@ -74,20 +74,20 @@ fn push_attributes(out: &mut String, attributes: &Attributes) -> Result<(), Allo
     let mtime = attributes.mtime;
     let ctime = attributes.ctime;
     let length = attributes.length;
-    writeln!(
+    write!(
         out,
         "attr {id} {kind} mode={mode} uid={uid} gid={gid} nlink={nlink} atime={atime} mtime={mtime} ctime={ctime} length={length}"
     )
 }
 
 fn push_entries(out: &mut String, entries: &[DirEntry]) -> Result<(), AllocError>
-    ensures { OnOk result (string_bytes out.new ≡ string_bytes out.old ++ line (listed (codes "names") entry_word entries.now)) }
+    ensures { OnOk result (string_bytes out.new ≡ string_bytes out.old ++ joined (listed (codes "names") entry_word entries.now)) }
 {
     push_count(out, "names", entries.len())?;
     for entry in entries {
         push_entry(out, entry)?;
     }
-    out.push_str("\n")
+    Ok(())
 }
 
 /// The name of a list, and how many it has.
@@ -109,15 +109,14 @@ fn push_entry(out: &mut String, entry: &DirEntry) -> Result<(), AllocError>
 }
 
 fn push_target(out: &mut String, path: &[u8]) -> Result<(), AllocError>
-    ensures { OnOk result (string_bytes out.new ≡ string_bytes out.old ++ line (codes "target" ∷ hex_word path.now ∷ [])) }
+    ensures { OnOk result (string_bytes out.new ≡ string_bytes out.old ++ joined (codes "target" ∷ hex_word path.now ∷ [])) }
 {
     out.push_str("target ")?;
-    push_hex(out, path)?;
-    out.push_str("\n")
+    push_hex(out, path)
 }
 
 fn push_file(out: &mut String, info: &FileInfo) -> Result<(), AllocError>
-    ensures { OnOk result (string_bytes out.new ≡ string_bytes out.old ++ line (file_words info.now)) }
+    ensures { OnOk result (string_bytes out.new ≡ string_bytes out.old ++ joined (file_words info.now)) }
 {
     let id = info.inode.get();
     let length = info.length;
@@ -127,7 +126,7 @@ fn push_file(out: &mut String, info: &FileInfo) -> Result<(), AllocError>
     let stripe = info.layout.stripe;
     let start = info.layout.start;
     let mix = info.layout.mix;
-    writeln!(
+    write!(
         out,
         "file {id} length={length} truncs={truncs} hint={hint} chunk={chunk} stripe={stripe} start={start} mix={mix}"
     )
@@ -135,16 +134,16 @@ fn push_file(out: &mut String, info: &FileInfo) -> Result<(), AllocError>
 
 /// A name with its equals sign, and a number.
 fn push_setting(out: &mut String, name: &str, number: u64) -> Result<(), AllocError>
-    ensures { OnOk result (string_bytes out.new ≡ string_bytes out.old ++ line (setting name.now number ∷ [])) }
+    ensures { OnOk result (string_bytes out.new ≡ string_bytes out.old ++ joined (setting name.now number ∷ [])) }
 {
-    writeln!(out, "{name}{number}")
+    write!(out, "{name}{number}")
 }
 
 fn push_reported(out: &mut String, adopted: bool, length: u64) -> Result<(), AllocError>
-    ensures { OnOk result (string_bytes out.new ≡ string_bytes out.old ++ line (setting (codes "adopted=") (flag adopted) ∷ setting (codes "length=") length ∷ [])) }
+    ensures { OnOk result (string_bytes out.new ≡ string_bytes out.old ++ joined (setting (codes "adopted=") (flag adopted) ∷ setting (codes "length=") length ∷ [])) }
 {
     let adopted = flag(adopted);
-    writeln!(out, "adopted={adopted} length={length}")
+    write!(out, "adopted={adopted} length={length}")
 }
 
 fn flag(holds: bool) -> u8
@@ -154,19 +153,19 @@ fn flag(holds: bool) -> u8
 }
 
 fn push_cut(out: &mut String, length: u64, truncs: u32) -> Result<(), AllocError>
-    ensures { OnOk result (string_bytes out.new ≡ string_bytes out.old ++ line (setting (codes "length=") length ∷ setting (codes "truncs=") truncs ∷ [])) }
+    ensures { OnOk result (string_bytes out.new ≡ string_bytes out.old ++ joined (setting (codes "length=") length ∷ setting (codes "truncs=") truncs ∷ [])) }
 {
-    writeln!(out, "length={length} truncs={truncs}")
+    write!(out, "length={length} truncs={truncs}")
 }
 
 fn push_doomed(out: &mut String, inodes: &[DoomedInode]) -> Result<(), AllocError>
-    ensures { OnOk result (string_bytes out.new ≡ string_bytes out.old ++ line (listed (codes "ids") doomed_word inodes.now)) }
+    ensures { OnOk result (string_bytes out.new ≡ string_bytes out.old ++ joined (listed (codes "ids") doomed_word inodes.now)) }
 {
     push_count(out, "ids", inodes.len())?;
     for inode in inodes {
         push_doomed_inode(out, inode)?;
     }
-    out.push_str("\n")
+    Ok(())
 }
 
 /// A space, and an inode with how far its deletion has come.
@@ -188,19 +187,19 @@ fn phase_word(phase: DeletionPhase) -> &'static str
 }
 
 fn push_wrote(out: &mut String, bytes: u64, pieces: u32) -> Result<(), AllocError>
-    ensures { OnOk result (string_bytes out.new ≡ string_bytes out.old ++ line (setting (codes "bytes=") bytes ∷ setting (codes "pieces=") pieces ∷ [])) }
+    ensures { OnOk result (string_bytes out.new ≡ string_bytes out.old ++ joined (setting (codes "bytes=") bytes ∷ setting (codes "pieces=") pieces ∷ [])) }
 {
-    writeln!(out, "bytes={bytes} pieces={pieces}")
+    write!(out, "bytes={bytes} pieces={pieces}")
 }
 
 fn push_data(out: &mut String, runs: &[DataRun]) -> Result<(), AllocError>
-    ensures { OnOk result (string_bytes out.new ≡ string_bytes out.old ++ line (listed (codes "data") data_word runs.now)) }
+    ensures { OnOk result (string_bytes out.new ≡ string_bytes out.old ++ joined (listed (codes "data") data_word runs.now)) }
 {
     push_count(out, "data", runs.len())?;
     for run in runs {
         push_data_run(out, run)?;
     }
-    out.push_str("\n")
+    Ok(())
 }
 
 /// A space, and where a run lies, how long it is and its value.
@@ -214,41 +213,41 @@ fn push_data_run(out: &mut String, run: &DataRun) -> Result<(), AllocError>
 }
 
 fn push_code(out: &mut String, code: Code) -> Result<(), AllocError>
-    ensures { OnOk result (string_bytes out.new ≡ string_bytes out.old ++ line (code_words code)) }
+    ensures { OnOk result (string_bytes out.new ≡ string_bytes out.old ++ joined (code_words code)) }
 {
     match code {
-        Code::BadPath => out.push_str("BadPath\n"),
-        Code::BadName => out.push_str("BadName\n"),
-        Code::NotFound => out.push_str("NotFound\n"),
-        Code::NotDir => out.push_str("NotDir\n"),
-        Code::IsDir => out.push_str("IsDir\n"),
-        Code::Exists => out.push_str("Exists\n"),
-        Code::NotEmpty => out.push_str("NotEmpty\n"),
-        Code::LinkLoop => out.push_str("LinkLoop\n"),
-        Code::IntoItself => out.push_str("IntoItself\n"),
-        Code::IsRoot => out.push_str("IsRoot\n"),
-        Code::NotLink => out.push_str("NotLink\n"),
-        Code::NoSession => out.push_str("NoSession\n"),
-        Code::InUse => out.push_str("InUse\n"),
-        Code::NotDoomed => out.push_str("NotDoomed\n"),
-        Code::NotPurged => out.push_str("NotPurged\n"),
-        Code::BadLayout => out.push_str("BadLayout\n"),
-        Code::TooLong => out.push_str("TooLong\n"),
+        Code::BadPath => out.push_str("BadPath"),
+        Code::BadName => out.push_str("BadName"),
+        Code::NotFound => out.push_str("NotFound"),
+        Code::NotDir => out.push_str("NotDir"),
+        Code::IsDir => out.push_str("IsDir"),
+        Code::Exists => out.push_str("Exists"),
+        Code::NotEmpty => out.push_str("NotEmpty"),
+        Code::LinkLoop => out.push_str("LinkLoop"),
+        Code::IntoItself => out.push_str("IntoItself"),
+        Code::IsRoot => out.push_str("IsRoot"),
+        Code::NotLink => out.push_str("NotLink"),
+        Code::NoSession => out.push_str("NoSession"),
+        Code::InUse => out.push_str("InUse"),
+        Code::NotDoomed => out.push_str("NotDoomed"),
+        Code::NotPurged => out.push_str("NotPurged"),
+        Code::BadLayout => out.push_str("BadLayout"),
+        Code::TooLong => out.push_str("TooLong"),
         Code::AtLimit(limit) => push_limit(out, limit),
-        Code::ShortHint => out.push_str("ShortHint\n"),
+        Code::ShortHint => out.push_str("ShortHint"),
         Code::Stale(kept) => push_stale(out, kept),
-        Code::Conflict => out.push_str("Conflict\n"),
-        Code::StoreFull => out.push_str("StoreFull\n"),
+        Code::Conflict => out.push_str("Conflict"),
+        Code::StoreFull => out.push_str("StoreFull"),
         Code::NodeFull { node, written } => push_node_full(out, node, written),
         Code::Removed { version, written } => push_removed(out, version, written),
     }
 }
 
 fn push_limit(out: &mut String, limit: Limit) -> Result<(), AllocError>
-    ensures { OnOk result (string_bytes out.new ≡ string_bytes out.old ++ line (codes "AtLimit" ∷ limit_word limit ∷ [])) }
+    ensures { OnOk result (string_bytes out.new ≡ string_bytes out.old ++ joined (codes "AtLimit" ∷ limit_word limit ∷ [])) }
 {
     let limit = limit_word(limit);
-    writeln!(out, "AtLimit {limit}")
+    write!(out, "AtLimit {limit}")
 }
 
 fn limit_word(limit: Limit) -> &'static str
@@ -262,19 +261,19 @@ fn limit_word(limit: Limit) -> &'static str
 }
 
 fn push_stale(out: &mut String, kept: u64) -> Result<(), AllocError>
-    ensures { OnOk result (string_bytes out.new ≡ string_bytes out.old ++ line (codes "Stale" ∷ setting (codes "kept=") kept ∷ [])) }
+    ensures { OnOk result (string_bytes out.new ≡ string_bytes out.old ++ joined (codes "Stale" ∷ setting (codes "kept=") kept ∷ [])) }
 {
-    writeln!(out, "Stale kept={kept}")
+    write!(out, "Stale kept={kept}")
 }
 
 fn push_node_full(out: &mut String, node: u8, written: u64) -> Result<(), AllocError>
-    ensures { OnOk result (string_bytes out.new ≡ string_bytes out.old ++ line (codes "NodeFull" ∷ setting (codes "node=") node ∷ setting (codes "written=") written ∷ [])) }
+    ensures { OnOk result (string_bytes out.new ≡ string_bytes out.old ++ joined (codes "NodeFull" ∷ setting (codes "node=") node ∷ setting (codes "written=") written ∷ [])) }
 {
-    writeln!(out, "NodeFull node={node} written={written}")
+    write!(out, "NodeFull node={node} written={written}")
 }
 
 fn push_removed(out: &mut String, version: u64, written: u64) -> Result<(), AllocError>
-    ensures { OnOk result (string_bytes out.new ≡ string_bytes out.old ++ line (codes "Removed" ∷ setting (codes "version=") version ∷ setting (codes "written=") written ∷ [])) }
+    ensures { OnOk result (string_bytes out.new ≡ string_bytes out.old ++ joined (codes "Removed" ∷ setting (codes "version=") version ∷ setting (codes "written=") written ∷ [])) }
 {
-    writeln!(out, "Removed version={version} written={written}")
+    write!(out, "Removed version={version} written={written}")
 }

@@ -1,4 +1,4 @@
-use fs_base::{ClientId, Config, Items};
+use fs_base::{ClientId, Config, Items, Text};
 use txn_task::{Entry, Receipt};
 
 /// A receipt with its client's ordinal, and what the client had seen as its call began.
@@ -8,6 +8,8 @@ pub struct Listed {
     /// The length of the journal, and then how much each storage node had done.
     pub fronts: Items<u64>,
     pub receipt: Receipt,
+    /// The call's name and the reply's words, as its line ends.
+    pub text: Text,
 }
 
 /// The counts of the end line.

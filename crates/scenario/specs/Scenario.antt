@@ -10,7 +10,6 @@ use Rattle.fs_base.specs.declared.ids.ClientId.{ClientId}
 use Rattle.serde_json.specs.Data.{Data}
 use Rattle.serde_json.specs.Read.{read}
 use Rattle.uuid.specs.Text.{parsed}
-use Rattle.uuid.specs.Parts.{is_nil_bytes}
 use Rattle.scenario.specs.Broken.{rule, not_built, need}
 use Rattle.scenario.specs.Json.{has_only, text_at, array_at}
 use Rattle.scenario.specs.Numbers.{count_or, number_or}
@@ -33,9 +32,13 @@ json_of bytes = if is_utf8 bytes then ok_or (read bytes) (rule 2 0) else Err (ru
 abbrev pub ops_of : List Data → Result (List Op) Broken
 ops_of ds = each_from (λ _ d. op_of d) 0 ds
 
+-- the nil one is 0
+abbrev pub client_of : ℕ → Option ClientId
+client_of number = if number == 0 then None else Some (record { 0 = number })
+
 -- the client of a text in any form of a UUID, but not the nil one
 abbrev pub id_in : List ℕ → Option ClientId
-id_in text = option_and_then (λ bytes. if is_nil_bytes bytes then None else Some (record { 0 = from_be_bytes w128 bytes })) (parsed text)
+id_in text = option_and_then (λ bytes. client_of (from_be_bytes w128 bytes)) (parsed text)
 
 abbrev pub ops_at : Data → Result (List Op) Broken
 ops_at d = do

@@ -6,7 +6,7 @@ ghost use Rattle.serde_json.specs.View.{view};
 ghost use Rattle.scenario.specs.Broken.{broken_of, not_built, rule};
 ghost use Rattle.scenario.specs.declared.broken.ScenarioError.TheVariants.{BadScenario};
 ghost use Rattle.fs_base.specs.Config.{IsConfig};
-ghost use Rattle.client_core.specs.Plans.{ops_in, AreDistinct, IsOp, IsPlan, IsScript};
+ghost use Rattle.client_core.specs.Plans.{ops_in, AreDistinct, HasId, IsOp, IsPlan, IsScript};
 ghost use Rattle.scenario.specs.Scenario.{clients_of, config_of, home_of, id_in, json_of, ops_at, ops_of, plan_of, scenario_of, script_of, scripts_of, short_enough};
 
 use crate::broken::{Broken, ScenarioError, need, not_built, too_long};
@@ -127,6 +127,7 @@ fn clients_of(alloc: Global, servers: u8, value: &Value) -> Result<Items<Script>
     ensures some { IfOk result (λ clients. 1 ≤ length clients) }
     ensures few { IfOk result (λ clients. length clients ≤ 64) }
     ensures scripts { IfOk result (λ clients. All (IsScript servers) clients) }
+    ensures ids { IfOk result (λ clients. All HasId clients) }
     ensures distinct { IfOk result (λ clients. AreDistinct clients) }
     ensures short { IfOk result (λ clients. ops_in clients ≤ 4000) }
 {
@@ -143,6 +144,7 @@ fn scripts_of(alloc: Global, servers: u8, values: &[Value]) -> Result<Items<Scri
     ensures gives { Gives broken_of (λ scripts. scripts) result (scripts_of servers (map view values.now)) }
     ensures count { IfOk result (λ scripts. length scripts ≡ length values.now) }
     ensures valid { IfOk result (λ scripts. All (IsScript servers) scripts) }
+    ensures named { IfOk result (λ scripts. All HasId scripts) }
 {
     let mut scripts = Items::new(alloc);
     for value in values {
@@ -163,6 +165,7 @@ fn script_of(
     requires { 1 ≤ servers }
     ensures gives { Gives broken_of (λ script. script) result (script_of servers ordinal (view value.now)) }
     ensures valid { IfOk result (λ script. IsScript servers script) }
+    ensures named { IfOk result HasId }
 {
     need(has_only(value, &["id", "home", "ops"]), not_built())?;
     let text = text_at(value, "id", not_built())?;
@@ -185,15 +188,17 @@ fn home_of(servers: u8, ordinal: usize, value: &Value) -> Result<u8, Broken>
 
 /// The client of a text in any form of a UUID, but not the nil one.
 fn id_in(text: &str) -> Result<ClientId, Broken>
-    ensures { result ≡ ok_or (id_in text.now) not_built }
+    ensures gives { result ≡ ok_or (id_in text.now) not_built }
+    ensures named { IfOk result (λ id. 1 ≤ id.0) }
 {
     let Ok(id) = Uuid::parse_str(text) else {
         return Err(not_built());
     };
-    if id.is_nil() {
+    let number = id.as_u128();
+    if number == 0 {
         return Err(not_built());
     }
-    Ok(ClientId(id.as_u128()))
+    Ok(ClientId(number))
 }
 
 fn ops_at(alloc: Global, value: &Value) -> Result<Items<Op>, ScenarioError>

@@ -4,7 +4,7 @@ use anyhow::{Context, Result, bail};
 use fs_base::{Call, Config, Items, Reply};
 use key_schema::Key;
 use row_records::{call_read, reply_read};
-use run_record::{Listed, Record, Summary};
+use run_record::{Listed, Record, Summary, text_of};
 use std::alloc::Global;
 use std::mem;
 use txn_task::Receipt;
@@ -122,10 +122,12 @@ impl Draft {
         let mut receipt = receipt;
         receipt.conflicts = mem::replace(&mut self.conflicts, Items::new(alloc));
         receipt.gone = mem::replace(&mut self.gone, Items::new(alloc));
+        let text = text_of(alloc, &receipt.call, &receipt.reply)?;
         self.receipts.push(Listed {
             client,
             fronts: Items::new(alloc),
             receipt,
+            text,
         })?;
         Ok(())
     }

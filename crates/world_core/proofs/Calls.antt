@@ -21,6 +21,7 @@ use Rattle.client_core.specs.Plans.{IsScript}
 use Rattle.client_core.specs.declared.messages.ClientAsk.TheVariants as client_asks
 use Rattle.client_core.specs.declared.plan.Op.{Op}
 use Rattle.client_core.specs.declared.plan.Script.{Script}
+use Rattle.run_record.specs.ReplyText.{text_of}
 use Rattle.run_record.specs.Receipts.{fronts_of}
 use Rattle.run_record.specs.declared.run.Listed.{Listed}
 use Rattle.request_run.specs.Answered.{IsExchange}
@@ -52,11 +53,11 @@ none_named : (C : Settings) (attempts : ℕ) (journal : List Entry) (script : Sc
 none_named C attempts journal script op receipts None h = h
 none_named C attempts journal script op receipts (Some work) h = absurd h
 
-pub seat_sent : (C : Settings) (attempts : ℕ) (journal : List Entry) (k : ℕ) (old new : Seat) (server : ℕ) (request : Request) (work : Work) → IsSeat C attempts journal k old → old.client.sent ≡ false
+pub seat_sent : (C : Settings) (attempts : ℕ) (journal : List Entry) (k : ℕ) (old new : Seat) (server : ℕ) (request : Request) (work : Work) → 1 ≤ attempts → IsSeat C attempts journal k old → old.client.sent ≡ false
     → client_asks.Send server request ≡ (send old.client (slice_get old.client.script.ops old.client.op)).1
     → work.task ≡ record (new_task C attempts request) { waiting = waits.Beginning } → work.ask ≡ asks.Begin → work.server ≡ server → work.front ≡ length journal
     → new ≡ record old { client = (send old.client (slice_get old.client.script.ops old.client.op)).0; work = Some work } → IsSeat C attempts journal k new
-seat_sent C attempts journal k old new server request work h idle is task ask served front now =
+seat_sent C attempts journal k old new server request work some h idle is task ask served front now =
     let s = sent_is old.client (slice_get old.client.script.ops old.client.op) server request is in
     let step : Op = s.0 in
     let named : AreNamed journal old.client.script.id old.receipts = none_named C attempts journal old.client.script old.client.op old.receipts old.work (subst (λ b. IsWorking C attempts journal old.client.script old.client.op old.receipts b old.work) idle h.working) in
@@ -66,7 +67,7 @@ seat_sent C attempts journal k old new server request work h idle is task ask se
     let under_way : IsUnderWay C attempts journal old.client.script old.client.op old.receipts work.front work.task =
     subst (λ n. IsUnderWay C attempts journal old.client.script old.client.op old.receipts n work.task) (sym front)
     (subst (λ (t : TaskView). IsUnderWay C attempts journal old.client.script old.client.op old.receipts (length journal) t) (sym task_is) under) in
-    let pending : IsPending C work.task work.ask = subst (λ (a : Ask). IsPending C work.task a) (sym ask) (subst (λ (t : TaskView). IsPending C t asks.Begin) (sym task_is) (refl, refl)) in
+    let pending : IsPending C work.task work.ask = subst (λ (a : Ask). IsPending C work.task a) (sym ask) (subst (λ (t : TaskView). IsPending C t asks.Begin) (sym task_is) (refl, refl, some)) in
     let client : (send old.client (slice_get old.client.script.ops old.client.op)).0 ≡ record old.client { sent = true } = ap (λ o. (send old.client o).0) s.1 in
     let seat : Seat = record old { client = record old.client { sent = true }; work = Some work } in
     subst (λ (x : Seat). IsSeat C attempts journal k x) (sym (now ∙ ap (λ (c : ClientView). record old { client = c; work = Some work }) client))
@@ -150,14 +151,14 @@ done_is ask e = absurd (cc)
 kept_is : (c : ClientView) (server : ℕ) (outcome : Outcome) (step : Op) (receipt : Receipt) → client_asks.CallEnd (receipt ∷ []) true ≡ (end_call c server outcome (Some step)).1 → receipt ≡ receipt_of c.op step server outcome
 kept_is c server outcome step receipt e = cc
 
-pub seat_ended : (C : Settings) (attempts : ℕ) (journal : List Entry) (k : ℕ) (old : Seat) (client : ClientView) (task : TaskView) (outcome : Outcome) (server front : ℕ) (fronts : List ℕ) (receipt : Receipt) (receipts : List Listed)
+pub seat_ended : (C : Settings) (attempts : ℕ) (journal : List Entry) (k : ℕ) (old : Seat) (client : ClientView) (task : TaskView) (outcome : Outcome) (server front : ℕ) (fronts text : List ℕ) (receipt : Receipt) (receipts : List Listed)
     → old.client.config ≡ C → IsScript C.servers old.client.script → old.work ≡ None → IsPast C attempts journal k old.client.script old.client.op old.receipts
     → server ≡ old.client.script.home → IsReady C attempts journal k old.client.script old.client.op old.receipts front task asks.Done → task.outcome ≡ Some outcome
     → client ≡ (end_call old.client server outcome (slice_get old.client.script.ops old.client.op)).0
     → client_asks.CallEnd (receipt ∷ []) true ≡ (end_call old.client server outcome (slice_get old.client.script.ops old.client.op)).1
-    → fronts ≡ fronts_of C front → receipts ≡ old.receipts ++ record { client = k; fronts = fronts; receipt = receipt } ∷ []
+    → fronts ≡ fronts_of C front → text ≡ text_of receipt.call receipt.reply → receipts ≡ old.receipts ++ record { client = k; fronts = fronts; receipt = receipt; text = text } ∷ []
     → IsSeat C attempts journal k (record { client = client; work = old.work; receipts = receipts })
-seat_ended C attempts journal k old client task outcome server front fronts receipt receipts config valid idle past home h out client_is ends fronts_are more =
+seat_ended C attempts journal k old client task outcome server front fronts text receipt receipts config valid idle past home h out client_is ends fronts_are text_is more =
     let step : Op = h.0 in
     let same : h.2 ≡ outcome = some_is h.2 outcome (sym h.3 ∙ out) in
     let ended : HasEnded C attempts journal k old.client.script old.client.op old.receipts front step outcome = subst (λ (x : Outcome). HasEnded C attempts journal k old.client.script old.client.op old.receipts front step x) same h.4 in
@@ -166,8 +167,9 @@ seat_ended C attempts journal k old client task outcome server front fronts rece
     kept_is old.client server outcome step receipt (ends ∙ ap (λ o. (end_call old.client server outcome o).1) there) ∙ ap (λ n. receipt_of old.client.op step n outcome) home in
     let listed : Listed = listed_of C k old.client.op step old.client.script.home front outcome in
     let all : receipts ≡ old.receipts ++ listed ∷ [] =
-    more ∙ (ap (λ (r : Receipt). old.receipts ++ record { client = k; fronts = fronts; receipt = r } ∷ []) kept
-    ∙ ap (λ (f : List ℕ). old.receipts ++ record { client = k; fronts = f; receipt = receipt_of old.client.op step old.client.script.home outcome } ∷ []) fronts_are) in
+    more ∙ (ap (λ (t : List ℕ). old.receipts ++ record { client = k; fronts = fronts; receipt = receipt; text = t } ∷ []) text_is
+    ∙ (ap (λ (r : Receipt). old.receipts ++ record { client = k; fronts = fronts; receipt = r; text = text_of r.call r.reply } ∷ []) kept
+    ∙ ap (λ (f : List ℕ). old.receipts ++ record listed { fronts = f } ∷ []) fronts_are)) in
     let now : client ≡ record old.client { op = old.client.op + 1; sent = false } = client_is ∙ ap (λ o. (end_call old.client server outcome o).0) there in
     let seat : IsSeat C attempts journal k (record { client = record old.client { op = old.client.op + 1; sent = false }; work = None; receipts = old.receipts ++ listed ∷ [] }) =
     record {

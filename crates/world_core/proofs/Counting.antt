@@ -8,9 +8,12 @@ use Rattle.txn_task.specs.declared.messages.Entry.{Entry}
 use Rattle.client_core.specs.Plans.{ops_in}
 use Rattle.client_core.specs.declared.plan.Op.{Op}
 use Rattle.client_core.specs.declared.plan.Script.{Script}
-use Rattle.run_record.specs.Receipts.{AreConflicts, AreReceipts, Follow, IsSection, NamesLater}
+use Rattle.run_record.specs.Follow.{Follow}
+use Rattle.run_record.specs.Receipts.{front_of, AreConflicts, AreReceipts, IsSection, NamesLater}
 use Rattle.run_record.specs.Right.{AreSections, conflicts_in}
 use Rattle.run_record.specs.declared.run.Listed.{Listed}
+use Rattle.run_record.proofs.Replaying.{follows}
+use Rattle.run_record.proofs.Served.{served}
 use Rattle.world_core.specs.World.{receipts_in}
 use Rattle.world_core.specs.declared.seats.Seat.{Seat}
 use Rattle.world_core.proofs.Growth.{EntryAt_within}
@@ -55,7 +58,7 @@ module _ (C : Settings) (attempts : ℕ) (journal : List Entry) (short : length 
   receipts_few : (client : ClientId) (receipts : List Listed) → AreReceipts C attempts journal client receipts → conflicts_in receipts ≤ length receipts * 200000
   receipts_few client [] h = omega arith
   receipts_few client (listed ∷ rest) h =
-      let first : length listed.receipt.conflicts ≤ length journal = conflicts_few C journal h.0.request h.0.front listed.receipt.conflicts h.0.conflicts in
+      let first : length listed.receipt.conflicts ≤ length journal = conflicts_few C journal (served h.0).request (front_of listed.fronts) listed.receipt.conflicts (served h.0).conflicts in
       let others : conflicts_in rest ≤ length rest * 200000 = receipts_few client rest h.1 in
       omega arith
 
@@ -76,7 +79,7 @@ module _ (C : Settings) (attempts : ℕ) (journal : List Entry) (short : length 
       let section : IsSection C attempts journal k script own = h.3 in
       let parts : conflicts_in receipts ≡ conflicts_in own + conflicts_in rest = ap (λ (rs : List Listed). conflicts_in rs) h.2 ∙ conflicts_both own rest in
       let first : conflicts_in own ≤ length own * 200000 = receipts_few script.id own section.each in
-      let count : length own ≡ length script.ops = follow_length k script 0 script.ops own section.follow in
+      let count : length own ≡ length script.ops = follow_length k script 0 script.ops own (follows C attempts journal k script own section) in
       let others : conflicts_in rest ≤ ops_in scripts * 200000 = sections_few (k + 1) scripts rest h.4 in
       omega arith
 

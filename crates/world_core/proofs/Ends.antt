@@ -8,7 +8,10 @@ use Rattle.conflict_sets.specs.declared.sets.Got.{Got}
 use Rattle.conflict_sets.specs.declared.sets.ReadSet.{ReadSet}
 use Rattle.fs_base.specs.Config.{Settings}
 use Rattle.fs_base.specs.declared.call.Request.{Request}
+use Rattle.fs_base.specs.declared.code.Code.TheVariants as codes
 use Rattle.fs_base.specs.declared.ids.ClientId.{ClientId}
+use Rattle.fs_base.specs.declared.reply.Reply.{Reply}
+use Rattle.fs_base.specs.declared.reply.Reply.TheVariants.{Refused}
 use Rattle.fs_base.specs.declared.row.Row.{Row}
 use Rattle.key_schema.specs.Keys.{spelled_key}
 use Rattle.key_schema.specs.declared.key.Key.{Key}
@@ -29,16 +32,20 @@ use Rattle.client_core.specs.Ops.{request_of}
 use Rattle.client_core.specs.declared.plan.Op.{Op}
 use Rattle.client_core.specs.declared.plan.Script.{Script}
 use Rattle.run_record.specs.Legal.{EntryAt, journal_rows, tree_at, writes_of}
-use Rattle.run_record.specs.Receipts.{AreConflicts, IsFull, IsOf, IsSeen, IsSpent, IsTold, NamesEntry}
+use Rattle.run_record.specs.Outcomes.{seen_by, AreAttempts, IsSeen, IsTold, MayTell, NamesEntry, Shows}
+use Rattle.run_record.specs.Receipts.{AreConflicts, IsOf}
+use Rattle.run_record.specs.Right.{IsNoRefusal}
 use Rattle.run_record.specs.declared.run.Listed.{Listed}
 use Rattle.request_run.specs.Served.{IsBegun, last_version}
 use Rattle.world_core.specs.Kept.{AreNamedOr, IsPast, IsUnderWay, version_after}
 use Rattle.world_core.specs.Ready.{HasEnded, listed_of}
 use Rattle.request_run.specs.Sound.{IsSoundJournal}
-use Rattle.request_run.proofs.Conflicts.{last_version_above, rows_ascending}
+use Rattle.run_record.proofs.TreeReplies.{IsTreeReply, accepted_reply, attempts_left, may_tell}
+use Rattle.run_record.proofs.Rising.{last_version_above}
+use Rattle.request_run.proofs.Conflicts.{last_version_low, rows_ascending}
 use Rattle.world_core.proofs.Growth.{EntryAt_within}
 use Rattle.request_run.proofs.History.{kept_by, once, row_kept, rows_tree}
-use Rattle.world_core.proofs.Named.{is_own, named_made, named_none, no_entry_fresh, no_entry_new}
+use Rattle.world_core.proofs.Named.{is_own, named_made, named_none, no_entry_fresh, no_entry_new, no_refusal, tree_told}
 
 -- ---- the receipt
 
@@ -55,60 +62,81 @@ module _ (C : Settings) (attempts : ℕ) (journal : List Entry) (k : ℕ) (scrip
         call = ap (λ (q : Request). q.call) (sym is);
       }
 
+  -- what the receipt shows is there
+  seen_within : outcome.version ≤ length journal → last_version front outcome.conflicts ≤ length journal → seen_by outcome ≤ length journal
+  seen_within version last = let low : last_version 0 outcome.conflicts ≤ last_version front outcome.conflicts = last_version_low front outcome.conflicts in omega arith
+
   -- an entry has the reply
-  pub ended_made : IsSoundJournal C journal → (place : ℕ) (e : Entry) → EntryAt journal place e → e.request ≡ request → e.reply ≡ outcome.reply → outcome.committed ≡ true → outcome.version ≡ place + 1 → front ≤ place
-      → AreNamedOr journal script.id receipts request front → HasEnded C attempts journal k script op receipts front step outcome
-  ended_made s place e at same reply committed version above named =
+  pub ended_made : IsSoundJournal C journal → (place : ℕ) (e : Entry) → EntryAt journal place e → e.request ≡ request → e.reply ≡ outcome.reply → outcome.committed ≡ true → outcome.version ≡ place + 1
+      → last_version front outcome.conflicts ≤ place → length outcome.conflicts < attempts → (floor : ℕ) → AreNamedOr journal script.id receipts request floor → HasEnded C attempts journal k script op receipts front step outcome
+  ended_made s place e at same reply committed version above left floor named =
       let within : place < length journal = EntryAt_within journal place e at in
+      let up : front ≤ last_version front outcome.conflicts = last_version_above C journal request front outcome.conflicts conflicts in
+      let accepted : IsTreeReply outcome.reply = accepted_reply outcome.reply (subst IsNoRefusal reply (no_refusal C journal s place e at)) in
       record {
         receipt = record {
-          request = request;
-          client_is = ap (λ (q : Request). q.client) is;
-          is_of = is_of;
-          front = front;
           fronts = refl;
-          mark = subst (λ b. MatchBool b (NamesEntry journal request front listed.receipt) (IsSeen C attempts journal request front listed.receipt)) (sym committed)
-              (record {
-                place = place;
-                version = version;
-                entry = e;
-                at = at;
-                client = ap (λ (q : Request). q.client) same;
-                server = ap (λ (q : Request). q.server) same;
-                number = ap (λ (q : Request). q.number) same;
-                stamp = ap (λ (q : Request). q.stamp) same;
-                call = ap (λ (q : Request). q.call) same;
-                reply = reply;
-                above = above;
-              });
-          conflicts = conflicts;
+          text = refl;
+          by_server = record {
+            request = request;
+            client_is = ap (λ (q : Request). q.client) is;
+            is_of = is_of;
+            outcome = subst (λ b. MatchBool b (NamesEntry journal request front outcome) (IsSeen C journal request front outcome)) (sym committed)
+                (record {
+                  place = place;
+                  version = version;
+                  entry = e;
+                  at = at;
+                  client = ap (λ (q : Request). q.client) same;
+                  server = ap (λ (q : Request). q.server) same;
+                  number = ap (λ (q : Request). q.number) same;
+                  stamp = ap (λ (q : Request). q.stamp) same;
+                  call = ap (λ (q : Request). q.call) same;
+                  reply = reply;
+                  above = above;
+                });
+            may = may_tell request.call outcome.reply accepted;
+            met = attempts_left attempts outcome.reply (length outcome.conflicts) accepted left;
+            conflicts = conflicts;
+          };
         };
         from = from;
         above = omega arith;
-        within = omega arith;
-        named = named_made journal script.id receipts listed request front place e (once C journal s) at same committed version named;
+        within = seen_within (omega arith) (omega arith);
+        named = named_made journal script.id receipts listed request floor place e (once C journal s) at same committed version named;
       }
 
   -- none has it
-  pub ended_seen : outcome.committed ≡ false → front ≤ outcome.version → outcome.version ≤ length journal → IsTold C journal request listed.receipt ⊎ (IsSpent attempts listed.receipt ⊎ IsFull journal listed.receipt)
-      → ((p : ℕ) (x : Entry) → EntryAt journal p x → x.request ≡ request → ⊥) → AreNamedOr journal script.id receipts request front → HasEnded C attempts journal k script op receipts front step outcome
-  ended_seen committed above within told none named =
+  pub ended_seen : outcome.committed ≡ false → front ≤ outcome.version → outcome.version ≤ length journal → last_version front outcome.conflicts ≤ length journal
+      → Shows C journal request front outcome outcome.reply → MayTell request.call outcome.reply → AreAttempts attempts outcome.reply (length outcome.conflicts)
+      → ((p : ℕ) (x : Entry) → EntryAt journal p x → x.request ≡ request → ⊥) → (floor : ℕ) → AreNamedOr journal script.id receipts request floor → HasEnded C attempts journal k script op receipts front step outcome
+  ended_seen committed above within last shown may met none floor named =
       record {
         receipt = record {
-          request = request;
-          client_is = ap (λ (q : Request). q.client) is;
-          is_of = is_of;
-          front = front;
           fronts = refl;
-          mark = subst (λ b. MatchBool b (NamesEntry journal request front listed.receipt) (IsSeen C attempts journal request front listed.receipt)) (sym committed)
-              (record { above = above; within = within; told = told });
-          conflicts = conflicts;
+          text = refl;
+          by_server = record {
+            request = request;
+            client_is = ap (λ (q : Request). q.client) is;
+            is_of = is_of;
+            outcome = subst (λ b. MatchBool b (NamesEntry journal request front outcome) (IsSeen C journal request front outcome)) (sym committed)
+                (record { above = above; within = within; shown = shown });
+            may = may;
+            met = met;
+            conflicts = conflicts;
+          };
         };
         from = from;
         above = above;
-        within = within;
-        named = named_none journal script.id receipts listed request front none named;
+        within = seen_within within last;
+        named = named_none journal script.id receipts listed request floor none named;
       }
+
+-- what the tree tells
+shows_told : (C : Settings) (journal : List Entry) (request : Request) (front : ℕ) (outcome : Outcome) (reply : Reply) → IsTreeReply reply → IsTold C journal request front outcome → Shows C journal request front outcome reply
+shows_told C journal request front outcome (Refused codes.Conflict) h told = absurd h
+shows_told C journal request front outcome (Refused codes.StoreFull) h told = absurd h
+shows_told C journal request front outcome reply h told = told
 
 -- ---- the ways to end
 
@@ -133,6 +161,28 @@ module _ (C : Settings) (attempts : ℕ) (journal : List Entry) (k : ℕ) (scrip
     conflicts_are outcome is = subst (λ (ps : List (ℕ × Key)). AreConflicts C journal task.request front ps) (sym is) u.task_is.conflicts
 
     -- what was read tells the reply
+    ended_told_at : (outcome : Outcome) → IsTreeReply outcome.reply → ((settled : ℕ) → apply C (tree_at C journal task.snapshot) task.request settled ≡ (tree_at C journal task.snapshot, outcome.reply))
+        → task.begun ≡ true → outcome.conflicts ≡ task.conflicts → IsToldReply task outcome → HasEnded C attempts journal k script op receipts front u.step outcome
+    ended_told_at outcome tree told begun conflicts h =
+        let b : IsBegun C journal task.request.client (last_version front task.conflicts) task = u.task_is.begun begun in
+        let within : task.snapshot ≤ length journal = b.within in
+        let up : front ≤ task.snapshot = front_below b in
+        let v : outcome.version ≡ task.snapshot = h.version in
+        let from : last_version front task.conflicts ≤ task.snapshot = b.from in
+        let last : last_version front outcome.conflicts ≡ last_version front task.conflicts = ap (last_version front) conflicts in
+        let left : length task.conflicts < attempts = subst (λ n. length task.conflicts < n) u.task_is.attempts_are b.left in
+        let met : length outcome.conflicts < attempts = subst (λ (ps : List (ℕ × Key)). length ps < attempts) (sym conflicts) left in
+        let is_told : IsTold C journal task.request front outcome = record {
+          from = omega arith;
+          told = subst (λ n. (settled : ℕ) → apply C (tree_at C journal n) task.request settled ≡ (tree_at C journal n, outcome.reply)) (sym v) told;
+        } in
+        ended_seen C attempts journal k script op receipts front u.step task.request u.request u.from outcome (conflicts_are outcome conflicts) h.mark (omega arith) (omega arith) (omega arith)
+        (shows_told C journal task.request front outcome outcome.reply tree is_told)
+        (may_tell task.request.call outcome.reply tree)
+        (attempts_left attempts outcome.reply (length outcome.conflicts) tree met)
+        (no_entry_new C journal s attempts k script op receipts past (last_version front task.conflicts) task.request number_is client_is client_small u.named task (last_version front task.conflicts) outcome.reply refl b h.new told)
+        (last_version front task.conflicts) u.named
+
     pub ended_told : (outcome : Outcome) → task.begun ≡ true → outcome.conflicts ≡ task.conflicts → IsToldReply task outcome → HasEnded C attempts journal k script op receipts front u.step outcome
     ended_told outcome begun conflicts h =
         let b : IsBegun C journal task.request.client (last_version front task.conflicts) task = u.task_is.begun begun in
@@ -140,13 +190,7 @@ module _ (C : Settings) (attempts : ℕ) (journal : List Entry) (k : ℕ) (scrip
         let told : (settled : ℕ) → apply C T task.request settled ≡ (T, outcome.reply)
         = subst (λ (c : Settings). (settled : ℕ) → apply c T task.request settled ≡ (T, outcome.reply)) u.task_is.config
         (h.told (journal_rows C journal task.snapshot) T (rows_ascending C journal s task.snapshot) (subst (λ (c : Settings). HasTree c (journal_rows C journal task.snapshot) T) (sym u.task_is.config) (rows_tree C journal s task.snapshot)) b.agrees) in
-        let within : task.snapshot ≤ length journal = b.within in
-        let up : front ≤ task.snapshot = front_below b in
-        let v : outcome.version ≡ task.snapshot = h.version in
-        ended_seen C attempts journal k script op receipts front u.step task.request u.request u.from outcome (conflicts_are outcome conflicts) h.mark (omega arith) (omega arith)
-        (inl (subst (λ n. (settled : ℕ) → apply C (tree_at C journal n) task.request settled ≡ (tree_at C journal n, outcome.reply)) (sym v) told))
-        (no_entry_new C journal s attempts k script op receipts past front task.request number_is client_is client_small u.named task (last_version front task.conflicts) outcome.reply refl b h.new told)
-        u.named
+        ended_told_at outcome (tree_told C journal s task outcome.reply b.agrees h.new told) told begun conflicts h
 
     -- an earlier attempt committed it
     pub ended_kept : (key : Key) (got : Got) (outcome : Outcome) → task.begun ≡ true → task.waiting ≡ waits.Reading (asks.Get key)
@@ -170,9 +214,12 @@ module _ (C : Settings) (attempts : ℕ) (journal : List Entry) (k : ℕ) (scrip
               let numbers : by.entry.request.number ≡ task.request.number = ap (λ (r : KeptReply). r.number) row ∙ h.number in
               let reply : by.entry.reply ≡ outcome.reply = ap (λ (r : KeptReply). r.reply) row ∙ sym h.reply in
               let version : outcome.version ≡ by.place + 1 = h.version ∙ (writer ∙ (ap (λ (x : Key). last_writer writes_of journal task.snapshot (spelled_key x)) key_is ∙ by.writer)) in
-              let way : (by.entry.request ≡ task.request) × (front ≤ by.place)
-              = is_own C journal s attempts k script op receipts past front task.request number_is client_is client_small u.named by.place by.entry by.at by.client_is (no_less by.entry.request.number task.request.number numbers) in
-              ended_made C attempts journal k script op receipts front u.step task.request u.request u.from outcome (conflicts_are outcome conflicts) s by.place by.entry by.at way.0 reply h.mark version way.1 u.named)
+              let way : (by.entry.request ≡ task.request) × (last_version front task.conflicts ≤ by.place)
+              = is_own C journal s attempts k script op receipts past (last_version front task.conflicts) task.request number_is client_is client_small u.named by.place by.entry by.at by.client_is (no_less by.entry.request.number task.request.number numbers) in
+              ended_made C attempts journal k script op receipts front u.step task.request u.request u.from outcome (conflicts_are outcome conflicts) s by.place by.entry by.at way.0 reply h.mark version
+              (subst (λ (ps : List (ℕ × Key)). last_version front ps ≤ by.place) (sym conflicts) way.1)
+              (subst (λ (ps : List (ℕ × Key)). length ps < attempts) (sym conflicts) (subst (λ n. length task.conflicts < n) u.task_is.attempts_are b.left))
+              (last_version front task.conflicts) u.named)
         ]
       where
         same_key : (x y : Key) → waits.Reading (asks.Get x) ≡ waits.Reading (asks.Get y) → x ≡ y

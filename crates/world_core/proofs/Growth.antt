@@ -1,11 +1,14 @@
 -- What lasts while the journal grows.
 use Rattle.std.proofs.Common.{◌≡◌, ◌≢◌, ℕ, ◌<◌, ◌≤◌, ◌⊎◌, inl, inr, List, [], ◌∷◌, ◌++◌, Option, Some, None, Bool, true, false, length, sym, ◌∙◌, ap, refl, subst, arith, suc, zero}
-use Rattle.std.specs.Prelude.{MatchBool}
+use Rattle.std.specs.Prelude.{MatchBool, MatchOption}
 use Rattle.std.proofs.lemmas.List.{take-append-le, length_push}
 use Rattle.conflict_sets.specs.Reads as bytes
 use Rattle.fs_base.specs.Config.{Settings}
 use Rattle.fs_base.specs.declared.call.Request.{Request}
+use Rattle.fs_base.specs.declared.code.Code.TheVariants as codes
 use Rattle.fs_base.specs.declared.ids.ClientId.{ClientId}
+use Rattle.fs_base.specs.declared.reply.Reply.{Reply}
+use Rattle.fs_base.specs.declared.reply.Reply.TheVariants.{Refused}
 use Rattle.fs_base.specs.declared.row.Row.{Row}
 use Rattle.key_schema.specs.declared.key.Key.{Key}
 use Rattle.kv_store.specs.Journal.{after_all}
@@ -14,11 +17,12 @@ use Rattle.row_tree.specs.Opening.{opening_bytes}
 use Rattle.tree_model.specs.Calls.{apply}
 use Rattle.tree_model.specs.Tree.{Tree, new_tree}
 use Rattle.txn_task.specs.declared.messages.Entry.{Entry}
-use Rattle.txn_task.specs.declared.outcome.Receipt.{Receipt}
+use Rattle.txn_task.specs.declared.outcome.Outcome.{Outcome}
 use Rattle.meta_task.specs.Task.{TaskView}
 use Rattle.client_core.specs.declared.plan.Script.{Script}
 use Rattle.run_record.specs.Legal.{EntryAt, tree_after, tree_at, journal_rows, writes_of}
-use Rattle.run_record.specs.Receipts.{AreConflicts, AreReceipts, IsReceipt, IsSeen, NamesEntry, NamesLater}
+use Rattle.run_record.specs.Outcomes.{IsOutcome, IsSeen, IsTold, NamesEntry, Shows}
+use Rattle.run_record.specs.Receipts.{front_of, outcome_of, AreConflicts, AreReceipts, IsReceipt, IsServed, NamesLater}
 use Rattle.run_record.specs.Touched.{IsTouched}
 use Rattle.run_record.specs.declared.run.Listed.{Listed}
 use Rattle.request_run.specs.Served.{IsBegun, IsTask, last_version}
@@ -84,8 +88,8 @@ module _ (C : Settings) (es : List Entry) (new : Entry) where
   AreConflicts-grown request floor [] h = tt
   AreConflicts-grown request floor (pair ∷ pairs) h = (NamesLater-grown request floor pair h.0, AreConflicts-grown request pair.0 pairs h.1)
 
-  pub NamesEntry-grown : (request : Request) (front : ℕ) (receipt : Receipt) → NamesEntry es request front receipt → NamesEntry (es ++ new ∷ []) request front receipt
-  NamesEntry-grown request front receipt h =
+  pub NamesEntry-grown : (request : Request) (front : ℕ) (outcome : Outcome) → NamesEntry es request front outcome → NamesEntry (es ++ new ∷ []) request front outcome
+  NamesEntry-grown request front outcome h =
       record {
         place = h.place;
         version = h.version;
@@ -100,39 +104,59 @@ module _ (C : Settings) (es : List Entry) (new : Entry) where
         above = h.above;
       }
 
+  -- a journal that grows wasn't full
+  module _ (request : Request) (front : ℕ) (outcome : Outcome) (within : outcome.version ≤ length es) (room : length es < 200000) where
+    IsTold-grown : IsTold C es request front outcome → IsTold C (es ++ new ∷ []) request front outcome
+    IsTold-grown h =
+        let same : tree_at C (es ++ new ∷ []) outcome.version ≡ tree_at C es outcome.version = tree_at-grown C es new outcome.version within in
+        record {
+          from = h.from;
+          told = subst (λ (T : Tree). (settled : ℕ) → apply C T request settled ≡ (T, outcome.reply)) (sym same) h.told;
+        }
+
+    Shows-grown : (reply : Reply) → Shows C es request front outcome reply → Shows C (es ++ new ∷ []) request front outcome reply
+    Shows-grown (Refused codes.Conflict) h = h
+    Shows-grown (Refused codes.StoreFull) h = absurd (let l : length es ≡ 200000 = h.full in omega arith)
+    Shows-grown reply h = IsTold-grown h
+
   module _ (attempts : ℕ) (room : length es < 200000) where
-    -- a journal that grows wasn't full
-    IsSeen-grown : (request : Request) (front : ℕ) (receipt : Receipt) → IsSeen C attempts es request front receipt → IsSeen C attempts (es ++ new ∷ []) request front receipt
-    IsSeen-grown request front receipt h =
-        let within : receipt.version ≤ length es = h.within in
-        let same : tree_at C (es ++ new ∷ []) receipt.version ≡ tree_at C es receipt.version = tree_at-grown C es new receipt.version within in
+    IsSeen-grown : (request : Request) (front : ℕ) (outcome : Outcome) → IsSeen C es request front outcome → IsSeen C (es ++ new ∷ []) request front outcome
+    IsSeen-grown request front outcome h =
+        let within : outcome.version ≤ length es = h.within in
         record {
           above = h.above;
           within = omega (arith, length_push es new);
-          told = elim h.told [
-            | inl told ↦ inl (subst (λ (T : Tree). (settled : ℕ) → apply C T request settled ≡ (T, receipt.reply)) (sym same) told)
-            | inr other ↦ elim other [
-              | inl spent ↦ inr (inl spent)
-              | inr full ↦ absurd (let l : length es ≡ 200000 = full.1 in omega arith)
-            ]
-          ];
+          shown = Shows-grown request front outcome within room outcome.reply h.shown;
         }
 
-    pub IsReceipt-grown : (client : ClientId) (listed : Listed) → IsReceipt C attempts es client listed → IsReceipt C attempts (es ++ new ∷ []) client listed
-    IsReceipt-grown client listed h =
+    IsOutcome-grown : (request : Request) (front : ℕ) (outcome : Outcome) → IsOutcome C es request front outcome → IsOutcome C (es ++ new ∷ []) request front outcome
+    IsOutcome-grown request front outcome h =
+        (elim outcome.committed as (λ b. MatchBool b (NamesEntry es request front outcome) (IsSeen C es request front outcome) → MatchBool b (NamesEntry (es ++ new ∷ []) request front outcome) (IsSeen C (es ++ new ∷ []) request front outcome)) [
+          | true ↦ λ n. NamesEntry-grown request front outcome n
+          | false ↦ λ s. IsSeen-grown request front outcome s
+        ]) h
+
+    IsServed-grown : (client : ClientId) (listed : Listed) → IsServed C attempts es client listed → IsServed C attempts (es ++ new ∷ []) client listed
+    IsServed-grown client listed h =
         record {
           request = h.request;
           client_is = h.client_is;
           is_of = h.is_of;
-          front = h.front;
-          fronts = h.fronts;
-          mark = (elim listed.receipt.committed as (λ b. MatchBool b (NamesEntry es h.request h.front listed.receipt) (IsSeen C attempts es h.request h.front listed.receipt)
-              → MatchBool b (NamesEntry (es ++ new ∷ []) h.request h.front listed.receipt) (IsSeen C attempts (es ++ new ∷ []) h.request h.front listed.receipt)) [
-                | true ↦ λ n. NamesEntry-grown h.request h.front listed.receipt n
-                | false ↦ λ s. IsSeen-grown h.request h.front listed.receipt s
-              ]) h.mark;
-          conflicts = AreConflicts-grown h.request h.front listed.receipt.conflicts h.conflicts;
+          outcome = IsOutcome-grown h.request (front_of listed.fronts) (outcome_of listed.receipt) h.outcome;
+          may = h.may;
+          met = h.met;
+          conflicts = AreConflicts-grown h.request (front_of listed.fronts) listed.receipt.conflicts h.conflicts;
         }
+
+    pub IsReceipt-grown : (client : ClientId) (listed : Listed) → IsReceipt C attempts es client listed → IsReceipt C attempts (es ++ new ∷ []) client listed
+    IsReceipt-grown client listed h = record {
+      fronts = h.fronts;
+      text = h.text;
+      by_server = (elim listed.receipt.server as (λ o. MatchOption o ⊥ (λ server. IsServed C attempts es client listed) → MatchOption o ⊥ (λ server. IsServed C attempts (es ++ new ∷ []) client listed)) [
+        | None ↦ λ none. none
+        | Some server ↦ λ is. IsServed-grown client listed is
+      ]) h.by_server;
+    }
 
     pub AreReceipts-grown : (client : ClientId) (receipts : List Listed) → AreReceipts C attempts es client receipts → AreReceipts C attempts (es ++ new ∷ []) client receipts
     AreReceipts-grown client [] h = tt
@@ -176,6 +200,7 @@ module _ (C : Settings) (es : List Entry) (new : Entry) where
           | inl old ↦ h.own place e old mine
           | inr is ↦ absurd (n (ap (λ (x : Entry). x.request.client) (sym is.1) ∙ mine))
         ];
+        left = h.left;
       }
 
   pub IsTask-grown : (attempts front : ℕ) (task : TaskView) → new.request.client ≢ task.request.client → IsTask C attempts es front task → IsTask C attempts (es ++ new ∷ []) front task
@@ -198,7 +223,7 @@ module _ (C : Settings) (es : List Entry) (new : Entry) where
         request = h.request;
         from = h.from;
         front_in = (let f : front ≤ length es = h.front_in in omega (arith, length_push es new));
-        named = AreNamedOr-grown script.id receipts task.request front n h.named;
+        named = AreNamedOr-grown script.id receipts task.request (last_version front task.conflicts) n h.named;
         task_is = IsTask-grown attempts front task (λ e. n (e ∙ same)) h.task_is;
       }
 

@@ -24,7 +24,9 @@ use Rattle.client_core.specs.Ops.{request_of}
 use Rattle.client_core.specs.declared.plan.Op.{Op}
 use Rattle.client_core.specs.declared.plan.Script.{Script}
 use Rattle.run_record.specs.Legal.{EntryAt, IsOnce, journal_rows, tree_at}
-use Rattle.run_record.specs.Receipts.{AreReceipts, Follow, IsOf, IsReceipt, IsSeen, NamesEntry}
+use Rattle.run_record.specs.Outcomes.{IsSeen, NamesEntry}
+use Rattle.run_record.specs.Follow.{Follow}
+use Rattle.run_record.specs.Receipts.{front_of, outcome_of, AreReceipts, IsOf, IsReceipt, IsServed}
 use Rattle.run_record.specs.declared.run.Listed.{Listed}
 use Rattle.request_run.specs.Served.{IsBegun}
 use Rattle.world_core.specs.Kept.{AreNamed, AreNamedOr, HasReceipt, IsPast}
@@ -32,6 +34,8 @@ use Rattle.request_run.specs.Sound.{IsSoundJournal}
 use Rattle.request_run.proofs.Conflicts.{rows_ascending}
 use Rattle.request_run.proofs.History.{entry_sound, kept_above, kept_by, rows_tree}
 use Rattle.run_record.specs.Right.{IsNoRefusal}
+use Rattle.run_record.proofs.Served.{served}
+use Rattle.run_record.proofs.TreeReplies.{IsTreeReply, new_reply, query_reply}
 use Rattle.request_run.proofs.Replies.{made_reply}
 
 -- ---- one receipt more
@@ -72,9 +76,10 @@ take_short (suc n) (x ∷ steps) = let l : length (take n steps) ≤ n = take_sh
 module _ (C : Settings) (attempts : ℕ) (es : List Entry) (k : ℕ) (script : Script) where
   receipt_number : (op : ℕ) (step : Op) (listed : Listed) (place : ℕ) (e : Entry) → IsOf (request_of script op step) listed.receipt → IsReceipt C attempts es script.id listed → EntryAt es place e
       → listed.receipt.committed ≡ true → listed.receipt.version ≡ place + 1 → e.request.number ≡ op + 1
-  receipt_number op step listed place e is_of h at committed version =
-      let names : NamesEntry es h.request h.front listed.receipt
-      = subst (λ b. MatchBool b (NamesEntry es h.request h.front listed.receipt) (IsSeen C attempts es h.request h.front listed.receipt)) committed h.mark in
+  receipt_number op step listed place e is_of receipt at committed version =
+      let h : IsServed C attempts es script.id listed = served receipt in
+      let names : NamesEntry es h.request (front_of listed.fronts) (outcome_of listed.receipt)
+      = subst (λ b. MatchBool b (NamesEntry es h.request (front_of listed.fronts) (outcome_of listed.receipt)) (IsSeen C es h.request (front_of listed.fronts) (outcome_of listed.receipt))) committed h.outcome in
       let v : listed.receipt.version ≡ names.place + 1 = names.version in
       let same_place : names.place ≡ place = omega arith in
       let at' : EntryAt es place names.entry = subst (λ p. EntryAt es p names.entry) same_place names.at in
@@ -129,11 +134,22 @@ module _ (C : Settings) (journal : List Entry) (s : IsSoundJournal C journal) wh
       apply_update C T q settled update ∙ (ap (after_kept C T q settled) is
       ∙ ap (λ b. cond b (T, kept.reply) (cond (nat_lt q.number kept.number) (T, Refused (codes.Stale kept.number)) (settle T q settled (effect C T q)))) (eq-eqb kept.number q.number same))
 
-  no_refusal : (place : ℕ) (e : Entry) → EntryAt journal place e → IsNoRefusal e.reply
+  pub no_refusal : (place : ℕ) (e : Entry) → EntryAt journal place e → IsNoRefusal e.reply
   no_refusal place e at =
       let sound : IsSoundEntry C e × bytes.Agrees (journal_rows C journal place) e.reads = entry_sound C journal s place e at in
       let made : (V : Tree) × (at_length (settled_by e.reply) (effect C (tree_at C journal place) e.request) ≡ Makes V e.reply) = sound.0.makes (journal_rows C journal place) (tree_at C journal place) (rows_ascending C journal s place) (rows_tree C journal s place) sound.1 in
       made_reply C (tree_at C journal place) made.0 e.request e.reply made.1
+
+  -- what was read tells a reply of the tree's
+  pub tree_told : (task : TaskView) (reply : Reply) → bytes.Agrees (journal_rows C journal task.snapshot) task.reads → ShowsNew task reply
+      → ((settled : ℕ) → apply C (tree_at C journal task.snapshot) task.request settled ≡ (tree_at C journal task.snapshot, reply)) → IsTreeReply reply
+  tree_told task reply agrees shows told = elim shows [
+    | inl query ↦ query_reply C (tree_at C journal task.snapshot) task.request 0 reply query (told 0)
+    | inr other ↦ elim other [
+      | inl kept ↦ new_reply C (tree_at C journal task.snapshot) task.request 0 reply (fresh_before task.request task task.snapshot refl agrees kept) (told 0)
+      | inr stale ↦ subst IsTreeReply (sym stale.1) tt
+    ]
+  ]
 
   module _ (attempts k : ℕ) (script : Script) (op : ℕ) (receipts : List Listed) (past : IsPast C attempts journal k script op receipts) (front : ℕ) (q : Request) (number : q.number ≡ op + 1) (mine : q.client ≡ script.id) (small : q.client.0 < 2 ^ 128)
       (named : AreNamedOr journal script.id receipts q front) where

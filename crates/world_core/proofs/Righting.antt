@@ -20,11 +20,15 @@ use Rattle.client_core.specs.Plans.{AreDistinct}
 use Rattle.client_core.specs.declared.plan.Op.{Op}
 use Rattle.client_core.specs.declared.plan.Script.{Script}
 use Rattle.run_record.specs.Legal.{EntryAt, IsLegal, journal_rows, tree_at}
-use Rattle.run_record.specs.Receipts.{AreReceipts, Follow, IsReceipt, IsSection, IsSeen, NamesEntry}
+use Rattle.run_record.specs.Outcomes.{IsSeen, NamesEntry}
+use Rattle.run_record.specs.Follow.{Follow}
+use Rattle.run_record.specs.Receipts.{front_of, outcome_of, AreReceipts, IsReceipt, IsSection, IsServed}
 use Rattle.run_record.specs.Right.{AreSections, IsRight, IsRightEntry, names_place, summary_of}
 use Rattle.run_record.specs.Touched.{AreTouched}
 use Rattle.run_record.specs.declared.run.Listed.{Listed}
 use Rattle.run_record.specs.declared.run.Record.{Record}
+use Rattle.run_record.proofs.Replaying.{section_of}
+use Rattle.run_record.proofs.Served.{served}
 use Rattle.request_run.specs.Served.{AreCovered}
 use Rattle.world_core.specs.Kept.{AreNamed, HasReceipt, IsSeat, IsWorking}
 use Rattle.request_run.specs.Entries.{entries_of}
@@ -69,11 +73,7 @@ ended_is c e = ended_parts c.sent (length c.script.ops) c.op e
 section : (C : Settings) (attempts : ℕ) (journal : List Entry) (k : ℕ) (seat : Seat) → IsSeat C attempts journal k seat → has_ended seat.client ≡ true → IsSection C attempts journal k seat.client.script seat.receipts
 section C attempts journal k seat h ended =
     let all : take seat.client.op seat.client.script.ops ≡ seat.client.script.ops = take_all seat.client.op seat.client.script.ops (ended_is seat.client ended).1 in
-    record {
-      follow = subst (λ (steps : List Op). Follow k seat.client.script 0 steps seat.receipts) all h.past.follow;
-      each = h.past.each;
-      rises = h.past.rises;
-    }
+    section_of C attempts journal k seat.client.script seat.receipts (subst (λ (steps : List Op). Follow k seat.client.script 0 steps seat.receipts) all h.past.follow) h.past.each h.past.rises
 
 pub sections : (C : Settings) (attempts : ℕ) (journal : List Entry) (seats : List Seat) (base : ℕ)
     → ((k : ℕ) (seat : Seat) → slice_get seats k ≡ Some seat → IsSeat C attempts journal (base + k) seat × (has_ended seat.client ≡ true))
@@ -118,10 +118,11 @@ counted place listed rest names =
 module _ (C : Settings) (attempts : ℕ) (journal : List Entry) (place : ℕ) (e : Entry) (at : EntryAt journal place e) where
   -- a receipt that names the entry has its number, and is its client's
   named_is : (client : ClientId) (listed : Listed) → IsReceipt C attempts journal client listed → names_place place listed ≡ true → (e.request.client ≡ client) × (listed.receipt.number ≡ Some e.request.number)
-  named_is client listed h names =
+  named_is client listed receipt names =
+      let h : IsServed C attempts journal client listed = served receipt in
       let parts : (listed.receipt.committed ≡ true) × (eqb listed.receipt.version (place + 1) ≡ true) = and_parts listed.receipt.committed (eqb listed.receipt.version (place + 1)) names in
-      let named : NamesEntry journal h.request h.front listed.receipt =
-      subst (λ b. MatchBool b (NamesEntry journal h.request h.front listed.receipt) (IsSeen C attempts journal h.request h.front listed.receipt)) parts.0 h.mark in
+      let named : NamesEntry journal h.request (front_of listed.fronts) (outcome_of listed.receipt) =
+      subst (λ b. MatchBool b (NamesEntry journal h.request (front_of listed.fronts) (outcome_of listed.receipt)) (IsSeen C journal h.request (front_of listed.fronts) (outcome_of listed.receipt))) parts.0 h.outcome in
       let version : listed.receipt.version ≡ place + 1 = eqb-true listed.receipt.version (place + 1) parts.1 in
       let version_named : listed.receipt.version ≡ named.place + 1 = named.version in
       let places : named.place ≡ place = omega arith in

@@ -13,7 +13,9 @@ use Rattle.meta_task.specs.declared.waiting.Waiting.TheVariants as waits
 use Rattle.client_core.specs.Ops.{request_of}
 use Rattle.client_core.specs.declared.plan.Op.{Op}
 use Rattle.client_core.specs.declared.plan.Script.{Script}
-use Rattle.run_record.specs.Receipts.{AreReceipts, Follow, IsOf, IsReceipt, Rises, front_of}
+use Rattle.run_record.specs.Outcomes.{seen_by}
+use Rattle.run_record.specs.Follow.{Follow}
+use Rattle.run_record.specs.Receipts.{outcome_of, AreReceipts, IsOf, IsReceipt, Rises, front_of}
 use Rattle.run_record.specs.declared.run.Listed.{Listed}
 use Rattle.world_core.specs.Kept.{AreNamed, IsPast, IsUnderWay, version_after}
 use Rattle.world_core.specs.Ready.{GoesOn, HasEnded, listed_of}
@@ -27,11 +29,11 @@ AreReceipts-push C attempts es client (x ∷ rs) r h n = (h.0, AreReceipts-push 
 
 Rises-push : (floor : ℕ) (rs : List Listed) (r : Listed) → Rises floor rs → version_after floor rs ≤ front_of r.fronts → front_of r.fronts ≤ r.receipt.version → Rises floor (rs ++ r ∷ [])
 Rises-push floor [] r h from up = (from, up, tt)
-Rises-push floor (x ∷ rs) r h from up = (h.0, h.1, Rises-push x.receipt.version rs r h.2 from up)
+Rises-push floor (x ∷ rs) r h from up = (h.0, h.1, Rises-push (seen_by (outcome_of x.receipt)) rs r h.2 from up)
 
-version_after-push : (floor : ℕ) (rs : List Listed) (r : Listed) → version_after floor (rs ++ r ∷ []) ≡ r.receipt.version
+version_after-push : (floor : ℕ) (rs : List Listed) (r : Listed) → version_after floor (rs ++ r ∷ []) ≡ seen_by (outcome_of r.receipt)
 version_after-push floor [] r = refl
-version_after-push floor (x ∷ rs) r = version_after-push x.receipt.version rs r
+version_after-push floor (x ∷ rs) r = version_after-push (seen_by (outcome_of x.receipt)) rs r
 
 -- the receipt is that of the operation with this ordinal
 abbrev IsNext : ℕ → Script → ℕ → Op → Listed → Type 0
@@ -92,7 +94,7 @@ pub ready_start : (C : Settings) (attempts : ℕ) (journal : List Entry) (k : �
 ready_start C attempts journal k script op receipts step after asks.Begin past named there h =
     record {
       under = subst (λ (t : TaskView). IsUnderWay C attempts journal script op receipts (length journal) t) (sym h.0) (begins C attempts journal k script op receipts step past named there);
-      pending = (ap (λ (t : TaskView). t.waiting) h.0, h.1);
+      pending = (ap (λ (t : TaskView). t.waiting) h.0, h.1, h.3);
     }
 ready_start C attempts journal k script op receipts step after (asks.Get key) past named there h = absurd h.goes_on
 ready_start C attempts journal k script op receipts step after (asks.Range lo hi limit) past named there h = absurd h.goes_on

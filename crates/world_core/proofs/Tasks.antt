@@ -50,7 +50,7 @@ module _ (C : Settings) (attempts : ℕ) (journal : List Entry) (front : ℕ) wh
         conflicts = h.conflicts;
         last = h.last;
         begun = λ b. (let k : IsBegun C journal task.request.client (last_version front task.conflicts) task = h.begun b in
-            record { from = k.from; within = k.within; agrees = k.agrees; covered = k.covered; own = k.own });
+            record { from = k.from; within = k.within; agrees = k.agrees; covered = k.covered; own = k.own; left = k.left });
       }
 
   -- more reads, which agree and are covered
@@ -63,12 +63,12 @@ module _ (C : Settings) (attempts : ℕ) (journal : List Entry) (front : ℕ) wh
         attempts_are = h.attempts_are;
         conflicts = h.conflicts;
         last = h.last;
-        begun = λ _. record { from = k.from; within = k.within; agrees = agrees; covered = covered; own = k.own };
+        begun = λ _. record { from = k.from; within = k.within; agrees = agrees; covered = covered; own = k.own; left = k.left };
       }
 
   -- the snapshot is the newest version
-  pub IsTask_begun : (task : TaskView) (version : ℕ) → version ≡ length journal → IsTask C attempts journal front task → IsTask C attempts journal front (learnt task (answers.Begun version))
-  IsTask_begun task version is h =
+  pub IsTask_begun : (task : TaskView) (version : ℕ) → version ≡ length journal → length task.conflicts < task.attempts → IsTask C attempts journal front task → IsTask C attempts journal front (learnt task (answers.Begun version))
+  IsTask_begun task version is left h =
       let last : last_version front task.conflicts ≤ length journal = h.last in
       record {
         config = h.config;
@@ -81,6 +81,7 @@ module _ (C : Settings) (attempts : ℕ) (journal : List Entry) (front : ℕ) wh
           agrees = record { keys = tt; ranges = tt };
           covered = covered_none C task.request;
           own = λ place e at mine. (let l : place < length journal = EntryAt_within journal place e at in omega arith);
+          left = left;
         };
       }
 
@@ -142,15 +143,19 @@ module _ (C : Settings) (attempts : ℕ) (journal : List Entry) (k : ℕ) (scrip
   abbrev Under : TaskView → Type 0
   Under task = IsUnderWay C attempts journal script op receipts front task
 
-  under_learnt : (old : TaskView) (answer : Answer) → Under old → IsTask C attempts journal front (learnt old answer) → Under (learnt old answer)
-  under_learnt old answer u t =
+  -- the client's entries that no receipt names are this request's, behind its conflicts
+  abbrev pub Names : TaskView → Type 0
+  Names task = AreNamedOr journal script.id receipts task.request (last_version front task.conflicts)
+
+  under_learnt : (old : TaskView) (answer : Answer) → Under old → IsTask C attempts journal front (learnt old answer) → Names (learnt old answer) → Under (learnt old answer)
+  under_learnt old answer u t named =
       record {
         step = u.step;
         there = u.there;
         request = learnt_request old answer ∙ u.request;
         from = u.from;
         front_in = u.front_in;
-        named = subst (λ (q : Request). AreNamedOr journal script.id receipts q front) (sym (learnt_request old answer)) u.named;
+        named = named;
         task_is = t;
       }
 
@@ -179,24 +184,24 @@ module _ (C : Settings) (attempts : ℕ) (journal : List Entry) (k : ℕ) (scrip
       (subst (λ (r : ReadSet). HasRead C (λ T. footprint C T new.request) r) (sym reads) (subst (λ (c : Settings). HasRead c (λ T. footprint c T new.request) new.reads) u.task_is.config all))
 
   -- the next ask waits, or the request has ended
-  pub next : (old : TaskView) (answer : Answer) (new : TaskView) → Under old → IsTask C attempts journal front (learnt old answer)
+  pub next : (old : TaskView) (answer : Answer) (new : TaskView) → Under old → IsTask C attempts journal front (learnt old answer) → Names (learnt old answer)
       → ((u : Under (learnt old answer)) (outcome : Outcome) → outcome.conflicts ≡ (learnt old answer).conflicts → HasOrigin old (learnt old answer) answer outcome → HasEnded C attempts journal k script op receipts front u.step outcome)
       → (ask : Ask) → Asks old answer new ask → IsReady C attempts journal k script op receipts front new ask
-  next old answer new u t ends asks.Begin h =
-      record { under = under_waiting (learnt old answer) new waits.Beginning (under_learnt old answer u t) h.0; pending = (waiting_is (learnt old answer) new waits.Beginning h.0, h.1) }
-  next old answer new u t ends (asks.Get key) h =
-      let under : Under new = under_waiting (learnt old answer) new (waits.Reading (asks.Get key)) (under_learnt old answer u t) h.is in
+  next old answer new u t named ends asks.Begin h =
+      record { under = under_waiting (learnt old answer) new waits.Beginning (under_learnt old answer u t named) h.0; pending = (waiting_is (learnt old answer) new waits.Beginning h.0, h.1, h.3) }
+  next old answer new u t named ends (asks.Get key) h =
+      let under : Under new = under_waiting (learnt old answer) new (waits.Reading (asks.Get key)) (under_learnt old answer u t named) h.is in
       record { under = under; pending = (waiting_is (learnt old answer) new (waits.Reading (asks.Get key)) h.is, h.begun, may_in new (asks.Get key) under h.touched) }
-  next old answer new u t ends (asks.Range lo hi limit) h =
-      let under : Under new = under_waiting (learnt old answer) new (waits.Reading (asks.Range lo hi limit)) (under_learnt old answer u t) h.is in
+  next old answer new u t named ends (asks.Range lo hi limit) h =
+      let under : Under new = under_waiting (learnt old answer) new (waits.Reading (asks.Range lo hi limit)) (under_learnt old answer u t named) h.is in
       record { under = under; pending = (waiting_is (learnt old answer) new (waits.Reading (asks.Range lo hi limit)) h.is, h.begun, may_in new (asks.Range lo hi limit) under h.touched) }
-  next old answer new u t ends (asks.Commit entry) (is, begun, goes_on, request, reads, sound, all) =
-      let under : Under new = under_waiting (learnt old answer) new (waits.Committing entry.reply) (under_learnt old answer u t) is in
+  next old answer new u t named ends (asks.Commit entry) (is, begun, goes_on, request, reads, sound, all) =
+      let under : Under new = under_waiting (learnt old answer) new (waits.Committing entry.reply) (under_learnt old answer u t named) is in
       record { under = under; pending = (waiting_is (learnt old answer) new (waits.Committing entry.reply) is, begun, request, reads, subst (λ (c : Settings). IsSoundEntry c entry) under.task_is.config sound, read_in new entry under request reads all) }
-  next old answer new u t ends asks.Done (outcome, is, conflicts, origin) =
-      let under : Under (learnt old answer) = under_learnt old answer u t in
+  next old answer new u t named ends asks.Done (outcome, is, conflicts, origin) =
+      let under : Under (learnt old answer) = under_learnt old answer u t named in
       (under.step, under.there, outcome, ap (λ (x : TaskView). x.outcome) is, ends under outcome (conflicts ∙ ap (λ (x : TaskView). x.conflicts) is) origin)
-  next old answer new u t ends ask h = absurd h
+  next old answer new u t named ends ask h = absurd h
 
 -- ---- what the store owes
 

@@ -1,40 +1,29 @@
 -- What is kept of a client, from turn to turn.
-use Rattle.std.specs.Prelude.{◌≡◌, ◌⊎◌, ◌≤◌, ◌<◌, ℕ, ◌+◌, List, [], ◌∷◌, Option, Some, None, Bool, true, false, length, take, slice_get}
-use Rattle.conflict_sets.specs.Reads as bytes
-use Rattle.conflict_sets.specs.declared.sets.ReadSet.{ReadSet}
+use Rattle.std.specs.Prelude.{◌≡◌, ◌⊎◌, ◌≤◌, ℕ, ◌+◌, List, [], ◌∷◌, Option, Some, None, Bool, true, false, length, take, slice_get}
 use Rattle.fs_base.specs.Config.{Settings}
 use Rattle.fs_base.specs.declared.call.Request.{Request}
 use Rattle.fs_base.specs.declared.ids.ClientId.{ClientId}
-use Rattle.key_schema.specs.declared.key.Key.{Key}
-use Rattle.path_walk.specs.Footprint.{footprint}
-use Rattle.path_walk.specs.Owed.{HasRead, MayAsk}
-use Rattle.path_walk.specs.Sound.{IsSoundEntry}
-use Rattle.row_tree.specs.TreeOf.{tree_of}
-use Rattle.row_tree.specs.TypedRows.{TypedRows}
-use Rattle.row_tree.specs.WellFormed.{IsWellFormed}
-use Rattle.txn_task.specs.Agreeing.{Agrees}
-use Rattle.txn_task.specs.declared.messages.Ask.{Ask}
-use Rattle.txn_task.specs.declared.messages.Ask.TheVariants as asks
 use Rattle.txn_task.specs.declared.messages.Entry.{Entry}
 use Rattle.meta_task.specs.Task.{TaskView}
-use Rattle.meta_task.specs.declared.waiting.Waiting.TheVariants as waits
 use Rattle.client_core.specs.Ops.{request_of}
 use Rattle.client_core.specs.Plans.{IsScript}
 use Rattle.client_core.specs.declared.plan.Op.{Op}
 use Rattle.client_core.specs.declared.plan.Script.{Script}
-use Rattle.run_record.specs.Legal.{EntryAt, journal_rows}
-use Rattle.run_record.specs.Receipts.{AreConflicts, AreReceipts, Follow, Rises}
-use Rattle.run_record.specs.Touched.{AreTouched}
+use Rattle.run_record.specs.Legal.{EntryAt}
+use Rattle.run_record.specs.Outcomes.{last_version, seen_by}
+use Rattle.run_record.specs.Follow.{Follow}
+use Rattle.run_record.specs.Receipts.{outcome_of, AreReceipts, Rises}
 use Rattle.run_record.specs.declared.run.Listed.{Listed}
+use Rattle.request_run.specs.Served.{IsPending, IsTask}
 use Rattle.world_core.specs.declared.seats.Seat.{Seat}
 use Rattle.world_core.specs.declared.seats.Work.{Work}
 
 -- ---- what is done
 
--- the version of the last receipt
+-- the newest version that the last receipt shows
 abbrev pub version_after : ℕ → List Listed → ℕ
 version_after floor [] = floor
-version_after floor (listed ∷ rest) = version_after listed.receipt.version rest
+version_after floor (listed ∷ rest) = version_after (seen_by (outcome_of listed.receipt)) rest
 
 -- a receipt for each operation that has ended
 pub record IsPast (C : Settings) (attempts : ℕ) (journal : List Entry) (k : ℕ) (script : Script) (done : ℕ) (receipts : List Listed) : Type 0 where
@@ -48,10 +37,10 @@ abbrev pub HasReceipt : List Listed → ℕ → Type 0
 HasReceipt [] place = ⊥
 HasReceipt (listed ∷ rest) place = ((listed.receipt.committed ≡ true) × (listed.receipt.version ≡ place + 1)) ⊎ HasReceipt rest place
 
--- each entry of the client has a receipt, or is of this request and was made since its call began
+-- each entry of the client has a receipt, or is of this request and was made from this version on
 abbrev pub AreNamedOr : List Entry → ClientId → List Listed → Request → ℕ → Type 0
-AreNamedOr journal client receipts request front =
-    (place : ℕ) (entry : Entry) → EntryAt journal place entry → entry.request.client ≡ client → HasReceipt receipts place ⊎ ((entry.request ≡ request) × (front ≤ place))
+AreNamedOr journal client receipts request floor =
+    (place : ℕ) (entry : Entry) → EntryAt journal place entry → entry.request.client ≡ client → HasReceipt receipts place ⊎ ((entry.request ≡ request) × (floor ≤ place))
 
 abbrev pub AreNamed : List Entry → ClientId → List Listed → Type 0
 AreNamed journal client receipts = (place : ℕ) (entry : Entry) → EntryAt journal place entry → entry.request.client ≡ client → HasReceipt receipts place
@@ -65,7 +54,7 @@ pub record IsUnderWay (C : Settings) (attempts : ℕ) (journal : List Entry) (sc
   pub request : task.request ≡ request_of script op step
   pub from : version_after 0 receipts ≤ front
   pub front_in : front ≤ length journal
-  pub named : AreNamedOr journal script.id receipts task.request front
+  pub named : AreNamedOr journal script.id receipts task.request (last_version front task.conflicts)
   pub task_is : IsTask C attempts journal front task
 
 pub record IsWork (C : Settings) (attempts : ℕ) (journal : List Entry) (script : Script) (op : ℕ) (receipts : List Listed) (work : Work) : Type 0 where

@@ -29,7 +29,7 @@ use fs_base::{Config, Items, Memory, Request};
 use kv_store::KvState;
 use meta_task::{MetaEntry, MetaTask};
 use request_run::{exchange, sound_store};
-use run_record::Listed;
+use run_record::{Listed, text_of};
 use std::alloc::Global;
 use txn_task::{Answer, Ask, Outcome, Receipt};
 
@@ -202,11 +202,13 @@ fn finish(
     let outcome = outcome_of(alloc, &task)?;
     let_go(task);
     let receipt = learn(&mut seat.client, server, outcome)?;
+    let text = text_of(alloc, &receipt.call, &receipt.reply)?;
     let fronts = fronts(alloc, &config, front)?;
     seat.receipts.push(Listed {
         client: k,
         fronts,
         receipt,
+        text,
     })
 }
 

@@ -4,4 +4,4 @@ use Rattle.run_record.proofs.Lists.{list_written}
 use Rattle.run_record.proofs.reply_text.push_data.Goals as goal
 
 pub returns : goal.returns
-returns c = list_written data_word _ (codes "data") c.args.runs.now c.loop-run.run-index c.push_str.result _ _ c.loop-run-test.false c.loop-run.invariant c.push_str.ensures.bytes
+returns c = list_written data_word _ (codes "data") c.args.runs.now c.loop-run.run-index _ c.loop-run-test.false c.loop-run.invariant

@@ -4,4 +4,4 @@ use Rattle.run_record.proofs.Lists.{list_written}
 use Rattle.run_record.proofs.reply_text.push_entries.Goals as goal
 
 pub returns : goal.returns
-returns c = list_written entry_word _ (codes "names") c.args.entries.now c.loop-entry.entry-index c.push_str.result _ _ c.loop-entry-test.false c.loop-entry.invariant c.push_str.ensures.bytes
+returns c = list_written entry_word _ (codes "names") c.args.entries.now c.loop-entry.entry-index _ c.loop-entry-test.false c.loop-entry.invariant

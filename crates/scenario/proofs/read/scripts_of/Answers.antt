@@ -4,7 +4,7 @@ use Rattle.std.proofs.lemmas.List.Elements.{All-append}
 use Rattle.fs_base.proofs.Each.{each_more, each_refused, each_done}
 use Rattle.serde_json.specs.View.{view}
 use Rattle.scenario.specs.Broken.{broken_of}
-use Rattle.client_core.specs.Plans.{IsScript}
+use Rattle.client_core.specs.Plans.{HasId, IsScript}
 use Rattle.scenario.specs.Scenario.{script_of}
 use Rattle.scenario.proofs.read.scripts_of.Goals as goal
 
@@ -13,6 +13,7 @@ loop-value-preserved c =
     record {
       count = rw c.in_ok-push.ensures.ok (omega (arith, length-append c.loop-value.scripts (c.in_ok-script.script ∷ []), c.loop-value.invariant.count));
       valid = rw c.in_ok-push.ensures.ok (All-append (IsScript c.args.servers) c.loop-value.scripts (c.in_ok-script.script ∷ []) c.loop-value.invariant.valid (search (rules, c.in_ok-script.ensures.valid)));
+      named = rw c.in_ok-push.ensures.ok (All-append HasId c.loop-value.scripts (c.in_ok-script.script ∷ []) c.loop-value.invariant.named (search (rules, c.in_ok-script.ensures.named)));
       so_far = rw c.in_ok-push.ensures.ok (each_more (script_of c.args.servers) view c.loop-value.scripts c.loop-value.value-index c.args.values.now c.value-item.result c.in_ok-script.script _ c.loop-value-test.true (rw (← c.value-item.is, ← c.loop-value.invariant.count, ← c.len-ordinal.ensures) c.in_ok-script.ensures.gives) c.loop-value.invariant.so_far);
     }
 

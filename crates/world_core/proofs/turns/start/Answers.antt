@@ -7,7 +7,7 @@ use Rattle.world_core.proofs.turns.start.Goals as goal
 
 pub returns-in_ok-work-in-Send-clause-seat : goal.returns-in_ok-work-in-Send-clause-seat
 returns-in_ok-work-in-Send-clause-seat c =
-    seat_sent c.args.config c.args.attempts (entries_of c.args.store.now.journal) c.args.k c.args.seat.now c.set_work.new.seat c.in-Send.server c.in-Send.request c.in_ok-work-in-Send.work c.requires.seat
+    seat_sent c.args.config c.args.attempts (entries_of c.args.store.now.journal) c.args.k c.args.seat.now c.set_work.new.seat c.in-Send.server c.in-Send.request c.in_ok-work-in-Send.work c.requires.from c.requires.seat
     (idle_by c.args.config c.args.attempts (entries_of c.args.store.now.journal) c.args.k c.args.seat.now c.requires.seat (sym c.is_some.ensures ∙ c.if-is_some.false))
     (sym c.in-Send.is ∙ c.in_ok-server.ensures.ask)
     c.in_ok-work-in-Send.ensures.task c.in_ok-work-in-Send.ensures.ask c.in_ok-work-in-Send.ensures.server

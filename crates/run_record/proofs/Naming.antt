@@ -3,15 +3,17 @@ use Rattle.std.proofs.Common.{◌≡◌, ℕ, ◌+◌, ◌<◌, ◌≤◌, inl, 
 use Rattle.std.specs.Prelude.{slice_get}
 use Rattle.std.proofs.lemmas.Bool.{and_parts, cases_Bool, cases_lt, eqb-true}
 use Rattle.std.proofs.lemmas.List.Sums.{sum_by-cons}
-use Rattle.std.proofs.lemmas.Option.{same_Some}
+use Rattle.std.proofs.lemmas.Option.{same_Some, slice_get_within}
 use Rattle.fs_base.specs.Config.{Settings}
 use Rattle.fs_base.specs.declared.ids.ClientId.{ClientId}
 use Rattle.txn_task.specs.declared.messages.Entry.{Entry}
 use Rattle.run_record.specs.Legal.{EntryAt}
-use Rattle.run_record.specs.Receipts.{AreReceipts, IsReceipt, IsSeen, NamesEntry, Rises, front_of}
+use Rattle.run_record.specs.Outcomes.{last_version, seen_by, IsSeen, NamesEntry}
+use Rattle.run_record.specs.Receipts.{AreReceipts, IsServed, Rises, front_of, outcome_of}
 use Rattle.run_record.specs.Right.{names_place}
 use Rattle.run_record.specs.declared.run.Listed.{Listed}
-use Rattle.world_core.proofs.Growth.{EntryAt_within}
+use Rattle.run_record.proofs.Rising.{last_version_above}
+use Rattle.run_record.proofs.Served.{served}
 
 abbrev pub naming : ℕ → List Listed → ℕ
 naming place receipts = count_by (names_place place) receipts
@@ -29,26 +31,38 @@ named_parts place listed names =
     let parts : (listed.receipt.committed ≡ true) × (eqb listed.receipt.version (place + 1) ≡ true) = and_parts listed.receipt.committed (eqb listed.receipt.version (place + 1)) names in
     (parts.0, eqb-true listed.receipt.version (place + 1) parts.1)
 
+-- receipts that rise from a version rise from a smaller one
+lower : (high low : ℕ) (receipts : List Listed) → low ≤ high → Rises high receipts → Rises low receipts
+lower high low [] l h = tt
+lower high low (listed ∷ rest) l h = let first : high ≤ front_of listed.fronts = h.0 in (omega arith, h.1, h.2)
+
+pub rises_rest : (floor : ℕ) (listed : Listed) (rest : List Listed) → Rises floor (listed ∷ rest) → Rises listed.receipt.version rest
+rises_rest floor listed rest h = lower (seen_by (outcome_of listed.receipt)) listed.receipt.version rest (omega arith) h.2
+
 module _ (C : Settings) (attempts : ℕ) (journal : List Entry) (client : ClientId) where
   -- ---- one receipt
 
-  pub of_commit : (listed : Listed) (h : IsReceipt C attempts journal client listed) → listed.receipt.committed ≡ true → NamesEntry journal h.request h.front listed.receipt
-  of_commit listed h is = subst (λ b. MatchBool b (NamesEntry journal h.request h.front listed.receipt) (IsSeen C attempts journal h.request h.front listed.receipt)) is h.mark
+  pub of_commit : (listed : Listed) (h : IsServed C attempts journal client listed) → listed.receipt.committed ≡ true → NamesEntry journal h.request (front_of listed.fronts) (outcome_of listed.receipt)
+  of_commit listed h is = subst (λ b. MatchBool b (NamesEntry journal h.request (front_of listed.fronts) (outcome_of listed.receipt)) (IsSeen C journal h.request (front_of listed.fronts) (outcome_of listed.receipt))) is h.outcome
 
-  pub of_seen : (listed : Listed) (h : IsReceipt C attempts journal client listed) → listed.receipt.committed ≡ false → IsSeen C attempts journal h.request h.front listed.receipt
-  of_seen listed h is = subst (λ b. MatchBool b (NamesEntry journal h.request h.front listed.receipt) (IsSeen C attempts journal h.request h.front listed.receipt)) is h.mark
+  pub of_seen : (listed : Listed) (h : IsServed C attempts journal client listed) → listed.receipt.committed ≡ false → IsSeen C journal h.request (front_of listed.fronts) (outcome_of listed.receipt)
+  of_seen listed h is = subst (λ b. MatchBool b (NamesEntry journal h.request (front_of listed.fronts) (outcome_of listed.receipt)) (IsSeen C journal h.request (front_of listed.fronts) (outcome_of listed.receipt))) is h.outcome
 
-  -- the call began with so much seen
-  pub front_above : (floor : ℕ) (listed : Listed) (rest : List Listed) (h : IsReceipt C attempts journal client listed) → Rises floor (listed ∷ rest) → floor ≤ h.front
-  front_above floor listed rest h rises =
-      let front : front_of listed.fronts ≡ h.front = ap front_of h.fronts in
-      let above : floor ≤ front_of listed.fronts = rises.0 in
+  -- the entry was made after the call began
+  pub entry_above : (listed : Listed) (h : IsServed C attempts journal client listed) (is : listed.receipt.committed ≡ true) → front_of listed.fronts ≤ (of_commit listed h is).place
+  entry_above listed h is =
+      let up : front_of listed.fronts ≤ last_version (front_of listed.fronts) listed.receipt.conflicts = last_version_above C journal h.request (front_of listed.fronts) listed.receipt.conflicts h.conflicts in
+      let above : last_version (front_of listed.fronts) listed.receipt.conflicts ≤ (of_commit listed h is).place = (of_commit listed h is).above in
       omega arith
 
-  named_client : (listed : Listed) → IsReceipt C attempts journal client listed → (place : ℕ) (e : Entry) → EntryAt journal place e → names_place place listed ≡ true → e.request.client ≡ client
+  -- the call began with so much seen
+  pub front_above : (floor : ℕ) (listed : Listed) (rest : List Listed) (h : IsServed C attempts journal client listed) → Rises floor (listed ∷ rest) → floor ≤ front_of listed.fronts
+  front_above floor listed rest h rises = rises.0
+
+  named_client : (listed : Listed) → IsServed C attempts journal client listed → (place : ℕ) (e : Entry) → EntryAt journal place e → names_place place listed ≡ true → e.request.client ≡ client
   named_client listed h place e at names =
       let parts : (listed.receipt.committed ≡ true) × (listed.receipt.version ≡ place + 1) = named_parts place listed names in
-      let named : NamesEntry journal h.request h.front listed.receipt = of_commit listed h parts.0 in
+      let named : NamesEntry journal h.request (front_of listed.fronts) (outcome_of listed.receipt) = of_commit listed h parts.0 in
       let here : listed.receipt.version ≡ place + 1 = parts.1 in
       let there : listed.receipt.version ≡ named.place + 1 = named.version in
       let places : named.place ≡ place = omega arith in
@@ -61,7 +75,7 @@ module _ (C : Settings) (attempts : ℕ) (journal : List Entry) (client : Client
   pub own_entry : (receipts : List Listed) → AreReceipts C attempts journal client receipts → (place : ℕ) (e : Entry) → EntryAt journal place e → naming place receipts ≡ 1 → e.request.client ≡ client
   own_entry [] h place e at one = absurd (let f : 0 ≡ 1 = one in omega arith)
   own_entry (listed ∷ rest) h place e at one = elim (cases_Bool (names_place place listed)) [
-    | inl names ↦ named_client listed h.0 place e at names
+    | inl names ↦ named_client listed (served h.0) place e at names
     | inr other ↦ own_entry rest h.1 place e at (sym (skipped place listed rest other) ∙ one)
   ]
 
@@ -69,19 +83,19 @@ module _ (C : Settings) (attempts : ℕ) (journal : List Entry) (client : Client
   none_below : (floor : ℕ) (receipts : List Listed) → AreReceipts C attempts journal client receipts → Rises floor receipts → (place : ℕ) → place < floor → naming place receipts ≡ 0
   none_below floor [] h rises place l = refl
   none_below floor (listed ∷ rest) h rises place l =
-      let above : floor ≤ h.0.front = front_above floor listed rest h.0 rises in
+      let above : floor ≤ front_of listed.fronts = front_above floor listed rest (served h.0) rises in
       elim (cases_Bool (names_place place listed)) [
         | inl names ↦
             (let parts : (listed.receipt.committed ≡ true) × (listed.receipt.version ≡ place + 1) = named_parts place listed names in
-            let named : NamesEntry journal h.0.request h.0.front listed.receipt = of_commit listed h.0 parts.0 in
+            let named : NamesEntry journal (served h.0).request (front_of listed.fronts) (outcome_of listed.receipt) = of_commit listed (served h.0) parts.0 in
             let here : listed.receipt.version ≡ place + 1 = parts.1 in
             let there : listed.receipt.version ≡ named.place + 1 = named.version in
-            let later : h.0.front ≤ named.place = named.above in
+            let later : front_of listed.fronts ≤ named.place = entry_above listed (served h.0) parts.0 in
             absurd (omega arith))
         | inr other ↦
             (let first : floor ≤ front_of listed.fronts = rises.0 in
             let then : front_of listed.fronts ≤ listed.receipt.version = rises.1 in
-            skipped place listed rest other ∙ none_below listed.receipt.version rest h.1 rises.2 place (omega arith))
+            skipped place listed rest other ∙ none_below listed.receipt.version rest h.1 (rises_rest floor listed rest rises) place (omega arith))
       ]
 
   module _ (v : ℕ) (listed : Listed) (rest : List Listed) (h : AreReceipts C attempts journal client (listed ∷ rest)) (rises : Rises v (listed ∷ rest)) (named : AreNamedFrom journal v (listed ∷ rest)) where
@@ -92,16 +106,16 @@ module _ (C : Settings) (attempts : ℕ) (journal : List Entry) (client : Client
       | inr other ↦
           (let one : naming v (listed ∷ rest) ≡ 1 = named v (omega arith) within in
           let same : naming v (listed ∷ rest) ≡ naming v rest = skipped v listed rest other in
-          let none : naming v rest ≡ 0 = none_below listed.receipt.version rest h.1 rises.2 v beyond in
+          let none : naming v rest ≡ 0 = none_below listed.receipt.version rest h.1 (rises_rest v listed rest rises) v beyond in
           omega arith)
     ]
 
-    pub place_next : (is : listed.receipt.committed ≡ true) → (of_commit listed h.0 is).place ≡ v
+    pub place_next : (is : listed.receipt.committed ≡ true) → (of_commit listed (served h.0) is).place ≡ v
     place_next is =
-        let names : NamesEntry journal h.0.request h.0.front listed.receipt = of_commit listed h.0 is in
-        let above : v ≤ h.0.front = front_above v listed rest h.0 rises in
-        let later : h.0.front ≤ names.place = names.above in
-        let within : names.place < length journal = EntryAt_within journal names.place names.entry names.at in
+        let names : NamesEntry journal (served h.0).request (front_of listed.fronts) (outcome_of listed.receipt) = of_commit listed (served h.0) is in
+        let above : v ≤ front_of listed.fronts = front_above v listed rest (served h.0) rises in
+        let later : front_of listed.fronts ≤ names.place = entry_above listed (served h.0) is in
+        let within : names.place < length journal = slice_get_within journal names.place names.entry names.at in
         let version : listed.receipt.version ≡ names.place + 1 = names.version in
         elim (cases_lt v names.place) [
           | inl less ↦ absurd (no_gap (omega arith) (omega arith) (λ first. let here : listed.receipt.version ≡ v + 1 = (named_parts v listed first).1 in omega arith))
@@ -110,9 +124,9 @@ module _ (C : Settings) (attempts : ℕ) (journal : List Entry) (client : Client
 
     pub version_seen : listed.receipt.committed ≡ false → listed.receipt.version ≡ v
     version_seen is =
-        let seen : IsSeen C attempts journal h.0.request h.0.front listed.receipt = of_seen listed h.0 is in
-        let above : v ≤ h.0.front = front_above v listed rest h.0 rises in
-        let later : h.0.front ≤ listed.receipt.version = seen.above in
+        let seen : IsSeen C journal (served h.0).request (front_of listed.fronts) (outcome_of listed.receipt) = of_seen listed (served h.0) is in
+        let above : v ≤ front_of listed.fronts = front_above v listed rest (served h.0) rises in
+        let later : front_of listed.fronts ≤ listed.receipt.version = seen.above in
         let within : listed.receipt.version ≤ length journal = seen.within in
         elim (cases_lt v listed.receipt.version) [
           | inl less ↦ absurd (no_gap (omega arith) less (λ first. let f : true ≡ false = sym (named_parts v listed first).0 ∙ is in cc))
@@ -122,7 +136,7 @@ module _ (C : Settings) (attempts : ℕ) (journal : List Entry) (client : Client
     version_near : listed.receipt.version ≤ v + 1
     version_near = elim (cases_Bool listed.receipt.committed) [
       | inl is ↦
-          (let names : NamesEntry journal h.0.request h.0.front listed.receipt = of_commit listed h.0 is in
+          (let names : NamesEntry journal (served h.0).request (front_of listed.fronts) (outcome_of listed.receipt) = of_commit listed (served h.0) is in
           let version : listed.receipt.version ≡ names.place + 1 = names.version in
           let next : names.place ≡ v = place_next is in
           omega arith)
@@ -147,5 +161,5 @@ module _ (C : Settings) (attempts : ℕ) (journal : List Entry) (client : Client
   ]
   journal_short v (listed ∷ rest) h rises named =
       let near : listed.receipt.version ≤ v + 1 = version_near v listed rest h rises named in
-      let more : length journal ≤ listed.receipt.version + length rest = journal_short listed.receipt.version rest h.1 rises.2 (named_rest v listed rest h rises named) in
+      let more : length journal ≤ listed.receipt.version + length rest = journal_short listed.receipt.version rest h.1 (rises_rest v listed rest rises) (named_rest v listed rest h rises named) in
       omega arith

@@ -1,0 +1,302 @@
+-- What the tree replies: neither of conflicts nor of a full journal.
+use Rattle.std.proofs.Common.{◌≡◌, ℕ, zero, suc, ◌+◌, ◌<◌, ◌==◌, Bool, true, false, cond, List, [], ◌∷◌, ◌++◌, sym, ap, subst, ◌∙◌}
+use Rattle.std.specs.Prelude.{Option, Some, None, Result, Ok, Err, if◌then◌else◌, unwrap_or, slice_index}
+use Rattle.std.specs.FinMap.{get, insert}
+use Rattle.fs_base.specs.Config.{Settings}
+use Rattle.fs_base.specs.Gives.{◌>>=◌, each_from}
+use Rattle.fs_base.specs.Names.{is_dot_dot, is_name, name_of}
+use Rattle.fs_base.specs.Paths.{components, is_path_text, name_at, names_of, path_of}
+use Rattle.fs_base.specs.declared.call.Call.{Call}
+use Rattle.fs_base.specs.declared.call.Call.TheVariants as calls
+use Rattle.fs_base.specs.declared.call.Changes.{Changes}
+use Rattle.fs_base.specs.declared.call.Request.{Request}
+use Rattle.fs_base.specs.declared.code.Code.{Code}
+use Rattle.fs_base.specs.declared.code.Code.TheVariants as codes
+use Rattle.fs_base.specs.declared.code.Limit.TheVariants.{Inodes}
+use Rattle.fs_base.specs.declared.kind.Kind.TheVariants as kinds
+use Rattle.fs_base.specs.declared.layout.DefaultLayout.{DefaultLayout}
+use Rattle.fs_base.specs.declared.path.Path.{Path}
+use Rattle.fs_base.specs.declared.reply.Reply.{Reply}
+use Rattle.fs_base.specs.declared.reply.Reply.TheVariants.{Attr, Done, Made, Refused}
+use Rattle.tree_model.specs.declared.new_node.NewNode.{NewNode}
+use Rattle.tree_model.specs.declared.node.Node.{Node}
+use Rattle.tree_model.specs.declared.node.NodePart.{NodePart}
+use Rattle.tree_model.specs.declared.node.NodePart.TheVariants.{Dir, File, Link}
+use Rattle.tree_model.specs.declared.walk.Walked.{Walked}
+use Rattle.tree_model.specs.declared.walk.Walked.TheVariants.{At, AtParent, NoName, Stopped}
+use Rattle.tree_model.specs.declared.walk.WalkEnd.{WalkEnd}
+use Rattle.tree_model.specs.declared.walk.WalkEnd.TheVariants.{Follow, NoFollow, Parent}
+use Rattle.tree_model.specs.Attributes.{attributes_of, changed}
+use Rattle.tree_model.specs.Calls.{apply, effect, effect_of, is_query, settle}
+use Rattle.tree_model.specs.Creating.{id_of, is_layout, part_for, with_child, add_numbered, add_in, add_child, unless_there, make_at, new_dir, new_file, new_link}
+use Rattle.tree_model.specs.Effects.{Effect, Leaves, Makes, Settles, refuses, on_path}
+use Rattle.tree_model.specs.Finding.{found_of, if_there, list_at, readlink_at, setattr_at, stat_at, target_of}
+use Rattle.tree_model.specs.Maps.{is_end}
+use Rattle.tree_model.specs.Tree.{Tree, next_at, node_with}
+use Rattle.tree_model.specs.Walk.{Behind, Entry, Inode, Trip, at_entry, at_file, at_node, at_part, down, ends_at, from_base, is_last_of_parent, is_last_unfollowed, looks_at_base, on_target, resolve, stay, visiting, walk}
+use Rattle.tree_model.proofs.ApplyLaws.{IsNewNumber, apply_new, apply_query}
+use Rattle.run_record.specs.Outcomes.{AreAttempts, MayTell}
+use Rattle.run_record.specs.Right.{IsNoRefusal}
+
+abbrev IsTreeCode : Code → Type 0
+IsTreeCode codes.Conflict = ⊥
+IsTreeCode codes.StoreFull = ⊥
+IsTreeCode code = Unit {0}
+
+abbrev pub IsTreeReply : Reply → Type 0
+IsTreeReply (Refused code) = IsTreeCode code
+IsTreeReply reply = Unit {0}
+
+-- ---- words
+
+abbrev ReadsWell : {X : Type 0} → Result X Code → Type 0
+ReadsWell (Ok x) = Unit {0}
+ReadsWell (Err code) = IsTreeCode code
+
+name_of_well : (bytes : List ℕ) → ReadsWell (name_of bytes)
+unfolding name_of
+name_of_well bytes = by_test (is_name bytes)
+  where
+    by_test : (b : Bool) → ReadsWell {X = List ℕ} (cond b (Ok bytes) (Err codes.BadName))
+    by_test true = tt
+    by_test false = tt
+
+name_at_well : (part : List ℕ) → ReadsWell (name_at part)
+name_at_well part = by_dots (is_dot_dot part)
+  where
+    by_dots : (b : Bool) → ReadsWell {X = List ℕ} (cond b (Err codes.BadPath) (name_of part))
+    by_dots true = tt
+    by_dots false = name_of_well part
+
+both_well : (r : Result (List ℕ) Code) (rest : Result (List (List ℕ)) Code) → ReadsWell r → ReadsWell rest → ReadsWell {X = List (List ℕ)} (r >>= λ y. rest >>= λ ys. Ok (y ∷ ys))
+both_well (Err code) rest h k = h
+both_well (Ok y) (Err code) h k = k
+both_well (Ok y) (Ok ys) h k = tt
+
+each_well : (parts : List (List ℕ)) (i : ℕ) → ReadsWell (each_from (λ _ part. name_at part) i parts)
+unfolding each_from
+each_well [] i = tt
+each_well (part ∷ parts) i = both_well (name_at part) (each_from (λ _ p. name_at p) (i + 1) parts) (name_at_well part) (each_well parts (i + 1))
+
+names_well : (absolute : Bool) (r : Result (List (List ℕ)) Code) → ReadsWell r → ReadsWell {X = Path} (r >>= λ names. Ok (record { absolute = absolute; names = names }))
+names_well absolute (Err code) h = h
+names_well absolute (Ok names) h = tt
+
+path_well : (text : List ℕ) → ReadsWell (path_of text)
+unfolding path_of
+path_well text = by_test (is_path_text text)
+  where
+    by_test : (b : Bool) → ReadsWell {X = Path} (cond b (names_of (components text) >>= λ names. Ok (record { absolute = slice_index text 0 == 47; names = names })) (Err codes.BadPath))
+    by_test true = names_well (slice_index text 0 == 47) (names_of (components text)) (each_well (components text) 0)
+    by_test false = tt
+
+-- ---- walks
+
+abbrev EndsWell : Walked → Type 0
+EndsWell (Stopped code) = IsTreeCode code
+EndsWell walked = Unit {0}
+
+at_file_well : (id : ℕ) (names : List (List ℕ)) → EndsWell (at_file id names)
+at_file_well id names = by_test (is_end names)
+  where
+    by_test : (b : Bool) → EndsWell (cond b (At id kinds.File) (Stopped codes.NotDir))
+    by_test true = tt
+    by_test false = tt
+
+ends_at_well : (end : WalkEnd) (here : ℕ) → EndsWell (ends_at end here)
+ends_at_well Parent here = tt
+ends_at_well Follow here = tt
+ends_at_well NoFollow here = tt
+
+module _ (follow : Behind) (T : Tree) (end : WalkEnd) (follows : (id here : ℕ) (target : List ℕ) (names : List (List ℕ)) → EndsWell (follow id here target names).end) where
+  module _ (here : ℕ) (names : List (List ℕ)) where
+    link_well : (id : ℕ) (target : List ℕ) (b : Bool) → EndsWell (cond b (stay (At id kinds.Link)) (follow id here target names)).end
+    link_well id target true = tt
+    link_well id target false = follows id here target names
+
+    part_well : (id : ℕ) (below : Trip) → EndsWell below.end → (part : NodePart) → EndsWell (at_part follow end here id names below part).end
+    part_well id below h (Dir layout) = h
+    part_well id below h (File length truncs layout hint) = at_file_well id names
+    part_well id below h (Link target) = link_well id target (is_last_unfollowed end names)
+
+    node_well : (id : ℕ) (below : Trip) → EndsWell below.end → (o : Option Node) → EndsWell (at_node follow end here id names below o).end
+    node_well id below h None = tt
+    node_well id below h (Some node) = part_well id below h node.part
+
+    entry_well : (below : ℕ → Trip) → ((id : ℕ) → EndsWell (below id).end) → (o : Option ℕ) → EndsWell (at_entry follow T end here names below o).end
+    entry_well below h None = tt
+    entry_well below h (Some id) = node_well id (below id) (h id) (get T.nodes id)
+
+  parent_well : (here : ℕ) (name : List ℕ) (trip : Trip) → EndsWell trip.end → (b : Bool) → EndsWell (cond b (stay (AtParent here name)) (visiting (Entry here name) trip)).end
+  parent_well here name trip h true = tt
+  parent_well here name trip h false = h
+
+  down_well : (names : List (List ℕ)) (here : ℕ) → EndsWell (down follow T end names here).end
+  down_well [] here = ends_at_well end here
+  down_well (name ∷ names) here =
+      parent_well here name (at_entry follow T end here names (down follow T end names) (get T.entries (here, name)))
+      (entry_well here names (down follow T end names) (down_well names) (get T.entries (here, name))) (is_last_of_parent end names)
+
+target_leads : (go : List (List ℕ) → ℕ → Trip) → ((names : List (List ℕ)) (here : ℕ) → EndsWell (go names here).end) → (here : ℕ) (names : List (List ℕ)) (r : Result Path Code) → ReadsWell r → EndsWell (on_target go here names r).end
+target_leads go h here names (Err code) w = w
+target_leads go h here names (Ok path) w = h (path.names ++ names) (if path.absolute then 0 else here)
+
+walk_well : (left : ℕ) (T : Tree) (end : WalkEnd) (names : List (List ℕ)) (here : ℕ) → EndsWell (walk left T end names here).end
+walk_well zero T end names here = down_well (λ _ _ _ _. stay (Stopped codes.LinkLoop)) T end (λ _ _ _ _. tt) names here
+walk_well (suc left) T end names here =
+    down_well (λ id from target more. visiting (Inode id) (on_target (walk left T end) from more (path_of target))) T end
+    (λ id from target more. target_leads (walk left T end) (walk_well left T end) from more (path_of target) (path_well target)) names here
+
+from_base_well : (o : Option Node) (trip : Trip) → EndsWell trip.end → EndsWell (from_base o trip).end
+from_base_well None trip h = tt
+from_base_well (Some node) trip h = in_part node.part
+  where
+    in_part : (part : NodePart) → EndsWell (from_base (Some (record node { part = part })) trip).end
+    in_part (Dir layout) = h
+    in_part (File length truncs layout hint) = tt
+    in_part (Link target) = tt
+
+base_well : (b : Bool) (id : ℕ) (o : Option Node) (trip : Trip) → EndsWell trip.end → EndsWell (cond b (visiting (Inode id) (from_base o trip)) trip).end
+base_well true id o trip h = from_base_well o trip h
+base_well false id o trip h = h
+
+resolve_well : (T : Tree) (base : ℕ) (path : Path) (end : WalkEnd) → EndsWell (resolve T base path end)
+resolve_well T base path end =
+    let here : ℕ = if path.absolute then 0 else base in
+    base_well (looks_at_base here end path.names) here (get T.nodes here) (walk 10 T end path.names here) (walk_well 10 T end path.names here)
+
+-- ---- effects
+
+abbrev RepliesWell : Effect → Type 0
+RepliesWell (Leaves reply) = IsTreeReply reply
+RepliesWell (Makes tree reply) = IsTreeReply reply
+RepliesWell (Settles tree) = Unit {0}
+
+by_path : (text : List ℕ) (act : Path → Effect) → ((path : Path) → RepliesWell (act path)) → RepliesWell (on_path (path_of text) act)
+by_path text act h = read (path_of text) (path_well text)
+  where
+    read : (r : Result Path Code) → ReadsWell r → RepliesWell (on_path r act)
+    read (Err code) w = w
+    read (Ok path) w = h path
+
+if_there_well : (o : Option Node) (act : Node → Effect) → ((node : Node) → RepliesWell (act node)) → RepliesWell (if_there o act)
+if_there_well None act h = tt
+if_there_well (Some node) act h = h node
+
+found_well : (walked : Walked) → EndsWell walked → IsTreeReply (found_of walked)
+found_well (At id kind) h = tt
+found_well (Stopped code) h = h
+found_well (AtParent id name) h = tt
+found_well (NoName id) h = tt
+
+stat_well : (T : Tree) (walked : Walked) → EndsWell walked → RepliesWell (stat_at T walked)
+stat_well T (At id kind) h = if_there_well (get T.nodes id) (λ node. Leaves (Attr (attributes_of T id node))) (λ node. tt)
+stat_well T (Stopped code) h = h
+stat_well T (AtParent id name) h = tt
+stat_well T (NoName id) h = tt
+
+list_well : (T : Tree) (walked : Walked) → EndsWell walked → RepliesWell (list_at T walked)
+list_well T (At id kinds.Dir) h = tt
+list_well T (At id kinds.File) h = tt
+list_well T (At id kinds.Link) h = tt
+list_well T (Stopped code) h = h
+list_well T (AtParent id name) h = tt
+list_well T (NoName id) h = tt
+
+target_well : (part : NodePart) → RepliesWell (target_of part)
+target_well (Dir layout) = tt
+target_well (File length truncs layout hint) = tt
+target_well (Link target) = tt
+
+readlink_well : (T : Tree) (walked : Walked) → EndsWell walked → RepliesWell (readlink_at T walked)
+readlink_well T (At id kinds.Dir) h = tt
+readlink_well T (At id kinds.File) h = tt
+readlink_well T (At id kinds.Link) h = if_there_well (get T.nodes id) (λ node. target_of node.part) (λ node. target_well node.part)
+readlink_well T (Stopped code) h = h
+readlink_well T (AtParent id name) h = tt
+readlink_well T (NoName id) h = tt
+
+setattr_well : (T : Tree) (stamp : ℕ) (changes : Changes) (walked : Walked) → EndsWell walked → RepliesWell (setattr_at T stamp changes walked)
+setattr_well T stamp changes (At id kind) h = if_there_well (get T.nodes id) (λ node. Makes (record T { nodes = insert T.nodes id (changed changes stamp node) }) Done) (λ node. tt)
+setattr_well T stamp changes (Stopped code) h = h
+setattr_well T stamp changes (AtParent id name) h = tt
+setattr_well T stamp changes (NoName id) h = tt
+
+module _ (C : Settings) (T : Tree) (server stamp : ℕ) (node : NewNode) where
+  numbered_well : (dir : ℕ) (name : List ℕ) (layout : DefaultLayout) → RepliesWell (add_numbered C T server stamp node dir name layout)
+  numbered_well dir name layout = by_last (next_at T.next server == 4294967295)
+    where
+      by_last : (b : Bool) → RepliesWell (cond b (refuses (codes.AtLimit Inodes)) (Makes (with_child T server dir name (node_with node.mode stamp (part_for C node.part (id_of (next_at T.next server) server) layout))) (Made (id_of (next_at T.next server) server))))
+      by_last true = tt
+      by_last false = tt
+
+  in_well : (dir : ℕ) (name : List ℕ) (part : NodePart) → RepliesWell (add_in C T server stamp node dir name part)
+  in_well dir name (Dir layout) = numbered_well dir name (unwrap_or node.layout layout)
+  in_well dir name (File length truncs layout hint) = tt
+  in_well dir name (Link target) = tt
+
+  child_well : (dir : ℕ) (name : List ℕ) (o : Option Node) → RepliesWell (add_child C T server stamp node dir name o)
+  child_well dir name None = tt
+  child_well dir name (Some parent) = in_well dir name parent.part
+
+  unless_well : (o : Option ℕ) (act : Effect) → RepliesWell act → RepliesWell (unless_there o act)
+  unless_well None act h = h
+  unless_well (Some id) act h = tt
+
+  make_well : (walked : Walked) → EndsWell walked → RepliesWell (make_at C T server stamp node walked)
+  make_well (At id kind) h = tt
+  make_well (NoName id) h = tt
+  make_well (Stopped code) h = h
+  make_well (AtParent dir name) h = unless_well (get T.entries (dir, name)) (add_child C T server stamp node dir name (get T.nodes dir)) (child_well dir name (get T.nodes dir))
+
+  layout_well : (b : Bool) (walked : Walked) → EndsWell walked → RepliesWell (cond b (make_at C T server stamp node walked) (refuses codes.BadLayout))
+  layout_well true walked h = make_well walked h
+  layout_well false walked h = tt
+
+call_well : (C : Settings) (T : Tree) (q : Request) (call : Call) → RepliesWell (effect_of C T q call)
+call_well C T q (calls.Lookup place) = by_path place.text (λ path. Leaves (found_of (resolve T place.base path NoFollow))) (λ path. found_well (resolve T place.base path NoFollow) (resolve_well T place.base path NoFollow))
+call_well C T q (calls.Stat place) = by_path place.text (λ path. stat_at T (resolve T place.base path Follow)) (λ path. stat_well T (resolve T place.base path Follow) (resolve_well T place.base path Follow))
+call_well C T q (calls.List place) = by_path place.text (λ path. list_at T (resolve T place.base path Follow)) (λ path. list_well T (resolve T place.base path Follow) (resolve_well T place.base path Follow))
+call_well C T q (calls.Readlink place) = by_path place.text (λ path. readlink_at T (resolve T place.base path NoFollow)) (λ path. readlink_well T (resolve T place.base path NoFollow) (resolve_well T place.base path NoFollow))
+call_well C T q (calls.Mkdir place mode layout) =
+    by_path place.text (λ path. if is_layout C layout then make_at C T q.server q.stamp (new_dir mode layout) (resolve T place.base path Parent) else refuses codes.BadLayout)
+    (λ path. layout_well C T q.server q.stamp (new_dir mode layout) (is_layout C layout) (resolve T place.base path Parent) (resolve_well T place.base path Parent))
+call_well C T q (calls.Create place mode layout) =
+    by_path place.text (λ path. if is_layout C layout then make_at C T q.server q.stamp (new_file mode layout) (resolve T place.base path Parent) else refuses codes.BadLayout)
+    (λ path. layout_well C T q.server q.stamp (new_file mode layout) (is_layout C layout) (resolve T place.base path Parent) (resolve_well T place.base path Parent))
+call_well C T q (calls.Symlink place target) =
+    by_path place.text (λ path. on_path (path_of target) (λ leads. make_at C T q.server q.stamp (new_link target) (resolve T place.base path Parent)))
+    (λ path. by_path target (λ leads. make_at C T q.server q.stamp (new_link target) (resolve T place.base path Parent))
+    (λ leads. make_well C T q.server q.stamp (new_link target) (resolve T place.base path Parent) (resolve_well T place.base path Parent)))
+call_well C T q (calls.Setattr place changes) = by_path place.text (λ path. setattr_at T q.stamp changes (resolve T place.base path Follow)) (λ path. setattr_well T q.stamp changes (resolve T place.base path Follow) (resolve_well T place.base path Follow))
+call_well C T q call = tt
+
+-- ---- replies
+
+settled_well : (T : Tree) (q : Request) (settled : ℕ) (reply : Reply) (f : Effect) → RepliesWell f → settle T q settled f ≡ (T, reply) → IsTreeReply reply
+settled_well T q settled reply (Leaves r) h e = subst IsTreeReply (ap (λ (p : Tree × Reply). p.1) e) h
+settled_well T q settled reply (Makes V r) h e = subst IsTreeReply (ap (λ (p : Tree × Reply). p.1) e) h
+settled_well T q settled reply (Settles V) h e = subst IsTreeReply (ap (λ (p : Tree × Reply). p.1) e) tt
+
+-- a query's, and those of a call with a new number
+pub query_reply : (C : Settings) (T : Tree) (q : Request) (settled : ℕ) (reply : Reply) → is_query q.call ≡ true → apply C T q settled ≡ (T, reply) → IsTreeReply reply
+query_reply C T q settled reply query is = settled_well T q settled reply (effect C T q) (call_well C T q q.call) (sym (apply_query C T q settled query) ∙ is)
+
+pub new_reply : (C : Settings) (T : Tree) (q : Request) (settled : ℕ) (reply : Reply) → IsNewNumber (get T.kept q.client.0) q.number → apply C T q settled ≡ (T, reply) → IsTreeReply reply
+new_reply C T q settled reply new is = settled_well T q settled reply (effect C T q) (call_well C T q q.call) (sym (apply_new C T q settled new) ∙ is)
+
+-- an entry's
+pub accepted_reply : (reply : Reply) → IsNoRefusal reply → IsTreeReply reply
+accepted_reply (Refused code) h = absurd h
+accepted_reply reply h = tt
+
+-- ---- what they may tell
+
+pub may_tell : (call : Call) (reply : Reply) → IsTreeReply reply → MayTell call reply
+may_tell call (Refused codes.Conflict) h = absurd h
+may_tell call (Refused codes.StoreFull) h = absurd h
+may_tell call reply h = tt
+
+pub attempts_left : (attempts : ℕ) (reply : Reply) (met : ℕ) → IsTreeReply reply → met < attempts → AreAttempts attempts reply met
+attempts_left attempts (Refused codes.Conflict) met h l = absurd h
+attempts_left attempts reply met h l = l
