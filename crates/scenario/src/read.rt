@@ -7,7 +7,7 @@ ghost use Rattle.scenario.specs.Broken.{broken_of, not_built, rule};
 ghost use Rattle.scenario.specs.declared.broken.ScenarioError.TheVariants.{BadScenario};
 ghost use Rattle.fs_base.specs.Config.{IsConfig};
 ghost use Rattle.client_core.specs.Plans.{ops_in, AreDistinct, HasId, IsOp, IsPlan, IsScript};
-ghost use Rattle.scenario.specs.Scenario.{clients_of, config_of, home_of, id_in, json_of, ops_at, ops_of, plan_of, scenario_of, script_of, scripts_of, short_enough};
+ghost use Rattle.scenario.specs.Scenario.{clients_of, config_of, home_of, id_in, json_of, ops_at, ops_of, plan_of, scenario_of, script_of, scripts_of, short_enough, client_of};
 
 use crate::broken::{Broken, ScenarioError, need, not_built, too_long};
 use crate::clients::{are_distinct, ops_in};
@@ -186,19 +186,26 @@ fn home_of(servers: u8, ordinal: usize, value: &Value) -> Result<u8, Broken>
     Ok(home as u8)
 }
 
+/// The client with this number, which isn't 0.
+fn client_of(number: u128) -> Result<ClientId, Broken>
+    ensures gives { result ≡ ok_or (client_of number) not_built }
+    ensures named { IfOk result (λ id. 1 ≤ id.0) }
+{
+    if number == 0 {
+        return Err(not_built());
+    }
+    Ok(ClientId(number))
+}
+
 /// The client of a text in any form of a UUID, but not the nil one.
 fn id_in(text: &str) -> Result<ClientId, Broken>
     ensures gives { result ≡ ok_or (id_in text.now) not_built }
     ensures named { IfOk result (λ id. 1 ≤ id.0) }
 {
-    let Ok(id) = Uuid::parse_str(text) else {
-        return Err(not_built());
-    };
-    let number = id.as_u128();
-    if number == 0 {
-        return Err(not_built());
+    match Uuid::parse_str(text) {
+        Ok(id) => client_of(id.as_u128()),
+        Err(_) => Err(not_built()),
     }
-    Ok(ClientId(number))
 }
 
 fn ops_at(alloc: Global, value: &Value) -> Result<Items<Op>, ScenarioError>
