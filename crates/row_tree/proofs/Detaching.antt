@@ -1,5 +1,5 @@
 -- An entry taken away: what unlink and rmdir come to by what the rows have, and the rows without it.
-use Rattle.std.proofs.Common.{◌≡◌, ◌≢◌, ◌⊎◌, ℕ, ◌+◌, ◌-◌, ◌<◌, ◌≤◌, ◌==◌, Bool, true, false, not, cond, List, refl, sym, ap, subst, ◌∙◌, inl, inr, arith, eq-eqb, ne_eqb, eqb-true}
+use Rattle.std.proofs.Common.{◌≡◌, ◌≢◌, ℕ, ◌-◌, ◌≤◌, ◌==◌, Bool, true, false, not, cond, List, refl, sym, ap, ◌∙◌, inl, inr, arith, eq-eqb, ne_eqb, eqb-true}
 use Rattle.std.specs.Prelude.{Option, Some, None}
 use Rattle.std.specs.FinMap.{get, insert}
 use Rattle.fs_base.specs.Config.{Settings}
@@ -17,7 +17,7 @@ use Rattle.tree_model.specs.declared.walk.Walked.TheVariants.{AtParent}
 use Rattle.tree_model.specs.Attributes.{count_to}
 use Rattle.tree_model.specs.Effects.{Effect, Makes, refuses}
 use Rattle.tree_model.specs.Finding.{if_there}
-use Rattle.tree_model.specs.Linking.{without_dir, without_entry, with_touched, let_go, unlinked, unlink_part, unlink_entry, unlink_at, is_empty_dir, rmdir_part, rmdir_entry, rmdir_at}
+use Rattle.tree_model.specs.Linking.{without_dir, without_entry, with_touched, let_go, unlink_part, unlink_entry, unlink_at, is_empty_dir, rmdir_part, rmdir_entry, rmdir_at}
 use Rattle.tree_model.specs.Tree.{Tree}
 use Rattle.tree_model.proofs.Lasts.{last_entry}
 use Rattle.tree_model.proofs.MapLaws.{ids, names, some_or_none, not_some, same_some, found_passes, passes_each, map_values-set}

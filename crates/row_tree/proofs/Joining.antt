@@ -1,5 +1,5 @@
 -- A further entry of a node: what link comes to by what the rows have, and the rows with it.
-use Rattle.std.proofs.Common.{◌≡◌, ◌≢◌, ℕ, ◌+◌, ◌<◌, ◌≤◌, ◌==◌, Bool, cond, List, refl, sym, ap, subst, ◌∙◌, inl, arith, eq-eqb, ne_eqb}
+use Rattle.std.proofs.Common.{◌≡◌, ◌≢◌, ℕ, ◌+◌, ◌≤◌, ◌==◌, Bool, cond, List, refl, sym, ap, ◌∙◌, inl, arith, eq-eqb, ne_eqb}
 use Rattle.std.specs.Prelude.{Option, Some, None}
 use Rattle.std.specs.Option.{option_map}
 use Rattle.std.specs.FinMap.{get}
@@ -20,7 +20,7 @@ use Rattle.tree_model.specs.Effects.{Effect, Makes, refuses}
 use Rattle.tree_model.specs.Finding.{if_there}
 use Rattle.tree_model.specs.Linking.{with_link, link_node, link_in, link_under, link_to}
 use Rattle.tree_model.specs.Tree.{Tree}
-use Rattle.tree_model.proofs.MapLaws.{not_some, same_some, some_injective}
+use Rattle.tree_model.proofs.MapLaws.{not_some, some_injective}
 use Rattle.row_tree.specs.Steps.{MayRelink, count_if, recounted, with_entry}
 use Rattle.row_tree.specs.TreeOf.{tree_of, node_of, node_part}
 use Rattle.row_tree.specs.TypedRows.{TypedRows, kind_of}

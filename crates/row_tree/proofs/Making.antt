@@ -27,15 +27,9 @@ use Rattle.row_tree.specs.TreeOf.{tree_of, node_of, node_part}
 use Rattle.row_tree.specs.TypedRows.{TypedRows, kind_of}
 use Rattle.row_tree.specs.WellFormed.{IsWellFormed, HasKind, FitsConfig}
 use Rattle.row_tree.proofs.Adding.{adds_node, next_is_free, tree_with_node}
+use Rattle.row_tree.proofs.Detaching.{no_entry_in}
 use Rattle.row_tree.proofs.NewRowLaws.{fits_config, inside, same_part}
 use Rattle.row_tree.proofs.Telling.{entry_is, node_is}
-
--- what is no directory has no entry
-no_entry : (C : Settings) (S : TypedRows) → IsWellFormed C S → (dir : ℕ) (name : List ℕ) → (HasKind S dir kinds.Dir → ⊥) → get S.dents (dir, name) ≡ None
-no_entry C S good dir name not_dir = elim (some_or_none (get S.dents (dir, name))) [
-  | inl none ↦ none
-  | inr at ↦ absurd (not_dir ((good.entry dir name at.0 at.1).parent))
-]
 
 -- a row of another kind
 pub no_directory : (S : TypedRows) (dir : ℕ) (row : InodeRow) → get S.inodes dir ≡ Some row → ((parent chunk stripe : ℕ) → row.part ≡ parts.Dir parent chunk stripe → ⊥) → HasKind S dir kinds.Dir → ⊥
@@ -79,7 +73,7 @@ module _ (C : Settings) (S : TypedRows) (good : IsWellFormed C S) (server stamp 
 
   -- there is no directory
   pub make_nowhere : (HasKind S dir kinds.Dir → ⊥) → made ≡ refuses codes.NotDir
-  make_nowhere not_dir = make_free (no_entry C S good dir name not_dir) (get S.inodes dir) refl ∙ in_other (get S.inodes dir) refl not_dir
+  make_nowhere not_dir = make_free (no_entry_in C S good dir name not_dir) (get S.inodes dir) refl ∙ in_other (get S.inodes dir) refl not_dir
 
   module _ (default : DefaultLayout) (number : ℕ) (room : IsRoom S server dir name default number) where
     abbrev layout : DefaultLayout

@@ -1,5 +1,5 @@
 -- Adding an entry of a node, or taking one away where others stay or the file waits, keeps rows well-formed.
-use Rattle.std.proofs.Common.{◌≡◌, ◌≢◌, ◌⊎◌, ℕ, ◌+◌, ◌<◌, ◌≤◌, ◌^◌, cond, List, [], ◌∷◌, refl, sym, ap, subst, ◌∙◌, inl, inr, arith, eq-eqb, ne_eqb}
+use Rattle.std.proofs.Common.{◌≡◌, ◌≢◌, ◌⊎◌, ℕ, ◌+◌, cond, List, [], ◌∷◌, refl, sym, ap, subst, ◌∙◌, inl, inr, arith, eq-eqb, ne_eqb}
 use Rattle.std.specs.Prelude.{Option, Some, None}
 use Rattle.std.specs.Option.{option_map}
 use Rattle.std.specs.Ordering.{nat_cmp}
@@ -7,14 +7,12 @@ use Rattle.std.specs.FinMap.{FinMap, get, insert}
 use Rattle.fs_base.specs.Config.{Settings}
 use Rattle.fs_base.specs.declared.kind.Kind.{Kind}
 use Rattle.fs_base.specs.declared.kind.Kind.TheVariants as kinds
-use Rattle.inode_record.specs.declared.inode.InodePart.{InodePart}
-use Rattle.inode_record.specs.declared.inode.InodePart.TheVariants as parts
 use Rattle.inode_record.specs.declared.inode.InodeRow.{InodeRow}
 use Rattle.row_records.specs.declared.rows.DentRow.{DentRow}
 use Rattle.row_records.specs.declared.rows.GcRow.{GcRow}
 use Rattle.row_records.specs.declared.rows.GcRow.TheVariants.{Waiting, Purged}
 use Rattle.tree_model.specs.Maps.{set, map_values}
-use Rattle.tree_model.proofs.MapLaws.{ids, names, some_injective, not_some, same_some, get-set_same, get-set_other, get-set_cases, count-set, decide, one_if, map_values-set, some_or_none}
+use Rattle.tree_model.proofs.MapLaws.{ids, names, some_injective, not_some, same_some, get-set_same, get-set_other, get-set_cases, count-set, decide, one_if, map_values-set}
 use Rattle.row_tree.specs.TypedRows.{TypedRows, kind_of, parent_of, parent_at, entries_to, is_to}
 use Rattle.row_tree.specs.TreeOf.{tree_of, node_of, doom_of}
 use Rattle.row_tree.specs.WellFormed.{IsPath, IsGiven, HasKind, IsEntry, IsLinked, IsRootRow, FitsConfig, IsDoomed, IsWellFormed}

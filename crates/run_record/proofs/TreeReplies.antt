@@ -12,7 +12,7 @@ use Rattle.fs_base.specs.declared.call.Changes.{Changes}
 use Rattle.fs_base.specs.declared.call.Request.{Request}
 use Rattle.fs_base.specs.declared.code.Code.{Code}
 use Rattle.fs_base.specs.declared.code.Code.TheVariants as codes
-use Rattle.fs_base.specs.declared.code.Limit.TheVariants.{Inodes}
+use Rattle.fs_base.specs.declared.code.Limit.TheVariants.{Inodes, Links}
 use Rattle.fs_base.specs.declared.kind.Kind.TheVariants as kinds
 use Rattle.fs_base.specs.declared.layout.DefaultLayout.{DefaultLayout}
 use Rattle.fs_base.specs.declared.path.Path.{Path}
@@ -26,11 +26,12 @@ use Rattle.tree_model.specs.declared.walk.Walked.{Walked}
 use Rattle.tree_model.specs.declared.walk.Walked.TheVariants.{At, AtParent, NoName, Stopped}
 use Rattle.tree_model.specs.declared.walk.WalkEnd.{WalkEnd}
 use Rattle.tree_model.specs.declared.walk.WalkEnd.TheVariants.{Follow, NoFollow, Parent}
-use Rattle.tree_model.specs.Attributes.{attributes_of, changed}
+use Rattle.tree_model.specs.Attributes.{attributes_of, changed, count_to}
 use Rattle.tree_model.specs.Calls.{apply, effect, effect_of, is_query, settle}
 use Rattle.tree_model.specs.Creating.{id_of, is_layout, part_for, with_child, add_numbered, add_in, add_child, unless_there, make_at, new_dir, new_file, new_link}
 use Rattle.tree_model.specs.Effects.{Effect, Leaves, Makes, Settles, refuses, on_path}
 use Rattle.tree_model.specs.Finding.{found_of, if_there, list_at, readlink_at, setattr_at, stat_at, target_of}
+use Rattle.tree_model.specs.Linking.{at_name, is_empty_dir, link_at, link_in, link_to, link_under, rmdir_at, rmdir_entry, rmdir_part, unlink_at, unlink_entry, unlink_part, with_link, without_dir}
 use Rattle.tree_model.specs.Maps.{is_end}
 use Rattle.tree_model.specs.Tree.{Tree, next_at, node_with}
 use Rattle.tree_model.specs.Walk.{Behind, Entry, Inode, Trip, at_entry, at_file, at_node, at_part, down, ends_at, from_base, is_last_of_parent, is_last_unfollowed, looks_at_base, on_target, resolve, stay, visiting, walk}
@@ -253,6 +254,70 @@ module _ (C : Settings) (T : Tree) (server stamp : ℕ) (node : NewNode) where
   layout_well true walked h = make_well walked h
   layout_well false walked h = tt
 
+-- ---- entries that come and go
+
+module _ (T : Tree) (stamp : ℕ) where
+  count_well : (V : Tree) (b : Bool) → RepliesWell (cond b (refuses (codes.AtLimit Links)) (Makes V Done))
+  count_well V true = tt
+  count_well V false = tt
+
+  link_in_well : (id dir : ℕ) (name : List ℕ) (part : NodePart) → RepliesWell (link_in T stamp id dir name part)
+  link_in_well id dir name (Dir layout) =
+      if_there_well (get T.nodes id) (λ node. cond (count_to T id == 65535) (refuses (codes.AtLimit Links)) (Makes (with_link T stamp dir name id node) Done))
+      (λ node. count_well (with_link T stamp dir name id node) (count_to T id == 65535))
+  link_in_well id dir name (File length truncs layout hint) = tt
+  link_in_well id dir name (Link target) = tt
+
+  under_well : (id dir : ℕ) (name : List ℕ) (o : Option Node) → RepliesWell (link_under T stamp id dir name o)
+  under_well id dir name None = tt
+  under_well id dir name (Some parent) = link_in_well id dir name parent.part
+
+  free_well : (o : Option ℕ) (act : Effect) → RepliesWell act → RepliesWell (unless_there o act)
+  free_well None act h = h
+  free_well (Some id) act h = tt
+
+  to_well : (id : ℕ) (to : Walked) → EndsWell to → RepliesWell (link_to T stamp id to)
+  to_well id (At other kind) h = tt
+  to_well id (NoName dir) h = tt
+  to_well id (Stopped code) h = h
+  to_well id (AtParent dir name) h = free_well (get T.entries (dir, name)) (link_under T stamp id dir name (get T.nodes dir)) (under_well id dir name (get T.nodes dir))
+
+  join_well : (from to : Walked) → EndsWell from → EndsWell to → RepliesWell (link_at T stamp from to)
+  join_well (At id kinds.Dir) to h e = tt
+  join_well (At id kinds.File) to h e = to_well id to e
+  join_well (At id kinds.Link) to h e = to_well id to e
+  join_well (Stopped code) to h e = h
+  join_well (AtParent dir name) to h e = tt
+  join_well (NoName dir) to h e = tt
+
+  unlink_part_well : (dir : ℕ) (name : List ℕ) (id : ℕ) (node : Node) (part : NodePart) → RepliesWell (unlink_part T stamp dir name id node part)
+  unlink_part_well dir name id node (Dir layout) = tt
+  unlink_part_well dir name id node (File length truncs layout hint) = tt
+  unlink_part_well dir name id node (Link target) = tt
+
+  unlink_entry_well : (dir : ℕ) (name : List ℕ) (o : Option ℕ) → RepliesWell (unlink_entry T stamp dir name o)
+  unlink_entry_well dir name None = tt
+  unlink_entry_well dir name (Some id) = if_there_well (get T.nodes id) (λ node. unlink_part T stamp dir name id node node.part) (λ node. unlink_part_well dir name id node node.part)
+
+  empty_well : (V : Tree) (b : Bool) → RepliesWell (cond b (Makes V Done) (refuses codes.NotEmpty))
+  empty_well V true = tt
+  empty_well V false = tt
+
+  rmdir_part_well : (dir : ℕ) (name : List ℕ) (id : ℕ) (part : NodePart) → RepliesWell (rmdir_part T dir name id part)
+  rmdir_part_well dir name id (Dir layout) = empty_well (without_dir T dir name id) (is_empty_dir T id)
+  rmdir_part_well dir name id (File length truncs layout hint) = tt
+  rmdir_part_well dir name id (Link target) = tt
+
+  rmdir_entry_well : (dir : ℕ) (name : List ℕ) (o : Option ℕ) → RepliesWell (rmdir_entry T dir name o)
+  rmdir_entry_well dir name None = tt
+  rmdir_entry_well dir name (Some id) = if_there_well (get T.nodes id) (λ node. rmdir_part T dir name id node.part) (λ node. rmdir_part_well dir name id node.part)
+
+  at_name_well : (walked : Walked) (act : ℕ → List ℕ → Effect) → EndsWell walked → ((dir : ℕ) (name : List ℕ) → RepliesWell (act dir name)) → RepliesWell (at_name walked act)
+  at_name_well (At id kind) act h well = tt
+  at_name_well (NoName dir) act h well = tt
+  at_name_well (Stopped code) act h well = h
+  at_name_well (AtParent dir name) act h well = well dir name
+
 call_well : (C : Settings) (T : Tree) (q : Request) (call : Call) → RepliesWell (effect_of C T q call)
 call_well C T q (calls.Lookup place) = by_path place.text (λ path. Leaves (found_of (resolve T place.base path NoFollow))) (λ path. found_well (resolve T place.base path NoFollow) (resolve_well T place.base path NoFollow))
 call_well C T q (calls.Stat place) = by_path place.text (λ path. stat_at T (resolve T place.base path Follow)) (λ path. stat_well T (resolve T place.base path Follow) (resolve_well T place.base path Follow))
@@ -269,6 +334,18 @@ call_well C T q (calls.Symlink place target) =
     (λ path. by_path target (λ leads. make_at C T q.server q.stamp (new_link target) (resolve T place.base path Parent))
     (λ leads. make_well C T q.server q.stamp (new_link target) (resolve T place.base path Parent) (resolve_well T place.base path Parent)))
 call_well C T q (calls.Setattr place changes) = by_path place.text (λ path. setattr_at T q.stamp changes (resolve T place.base path Follow)) (λ path. setattr_well T q.stamp changes (resolve T place.base path Follow) (resolve_well T place.base path Follow))
+call_well C T q (calls.Link from to) =
+    by_path from.text (λ source. on_path (path_of to.text) (λ path. link_at T q.stamp (resolve T from.base source NoFollow) (resolve T to.base path Parent)))
+    (λ source. by_path to.text (λ path. link_at T q.stamp (resolve T from.base source NoFollow) (resolve T to.base path Parent))
+    (λ path. join_well T q.stamp (resolve T from.base source NoFollow) (resolve T to.base path Parent) (resolve_well T from.base source NoFollow) (resolve_well T to.base path Parent)))
+call_well C T q (calls.Unlink place) =
+    by_path place.text (λ path. unlink_at T q.stamp (resolve T place.base path Parent))
+    (λ path. at_name_well T q.stamp (resolve T place.base path Parent) (λ dir name. unlink_entry T q.stamp dir name (get T.entries (dir, name))) (resolve_well T place.base path Parent)
+    (λ dir name. unlink_entry_well T q.stamp dir name (get T.entries (dir, name))))
+call_well C T q (calls.Rmdir place) =
+    by_path place.text (λ path. rmdir_at T (resolve T place.base path Parent))
+    (λ path. at_name_well T q.stamp (resolve T place.base path Parent) (λ dir name. rmdir_entry T dir name (get T.entries (dir, name))) (resolve_well T place.base path Parent)
+    (λ dir name. rmdir_entry_well T q.stamp dir name (get T.entries (dir, name))))
 call_well C T q call = tt
 
 -- ---- replies
