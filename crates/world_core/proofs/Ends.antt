@@ -1,5 +1,5 @@
 -- Each way in which a request ends has its receipt.
-use Rattle.std.proofs.Common.{◌≡◌, ℕ, ◌<◌, ◌≤◌, ◌+◌, ◌^◌, ◌⊎◌, inl, inr, List, Some, None, true, false, length, sym, ◌∙◌, ap, refl, subst, arith}
+use Rattle.std.proofs.Common.{◌≡◌, ℕ, ◌<◌, ◌≤◌, ◌+◌, ◌^◌, inl, inr, List, Some, None, true, false, length, sym, ◌∙◌, ap, refl, subst, arith}
 use Rattle.std.specs.Prelude.{MatchBool, MatchOption, ⊤}
 use Rattle.std.specs.FinMap.{get}
 use Rattle.conflict_sets.specs.Reads as bytes

@@ -28,12 +28,12 @@ use Rattle.request_run.proofs.Rows.{entries-push, length_entries}
 pub seat_at : (seats : List Seat) (k : ℕ) (x : Seat) → k < length seats → x ≡ get_or seats k x → slice_get seats k ≡ Some x
 seat_at seats k x l is = slice_get-get_or seats k x l ∙ ap Some (sym is)
 
-slice_get-set_same : (seats : List Seat) (k : ℕ) (y : Seat) → k < length seats → slice_get (set seats k y) k ≡ Some y
+pub slice_get-set_same : (seats : List Seat) (k : ℕ) (y : Seat) → k < length seats → slice_get (set seats k y) k ≡ Some y
 slice_get-set_same [] k y l = absurd (omega arith)
 slice_get-set_same (z ∷ seats) zero y l = refl
 slice_get-set_same (z ∷ seats) (suc k) y l = slice_get-set_same seats k y (omega arith)
 
-slice_get-set_other : (seats : List Seat) (k j : ℕ) (y : Seat) → j ≢ k → slice_get (set seats k y) j ≡ slice_get seats j
+pub slice_get-set_other : (seats : List Seat) (k j : ℕ) (y : Seat) → j ≢ k → slice_get (set seats k y) j ≡ slice_get seats j
 slice_get-set_other [] k j y n = refl
 slice_get-set_other (z ∷ seats) zero zero y n = absurd (n refl)
 slice_get-set_other (z ∷ seats) zero (suc j) y n = refl

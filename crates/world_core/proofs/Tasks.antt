@@ -21,7 +21,7 @@ use Rattle.txn_task.specs.declared.messages.Ask.{Ask}
 use Rattle.txn_task.specs.declared.messages.Ask.TheVariants as asks
 use Rattle.txn_task.specs.declared.messages.Entry.{Entry}
 use Rattle.txn_task.specs.declared.outcome.Outcome.{Outcome}
-use Rattle.meta_task.specs.Task.{TaskView, new_task, learnt, reads_with, Asks, HasOrigin, HasReadAll, Fits, MayTake}
+use Rattle.meta_task.specs.Task.{TaskView, new_task, learnt, reads_with, Asks, HasOrigin, HasReadAll, MayTake}
 use Rattle.meta_task.specs.declared.waiting.Waiting.{Waiting}
 use Rattle.meta_task.specs.declared.waiting.Waiting.TheVariants as waits
 use Rattle.client_core.specs.Ops.{request_of}

@@ -1,4 +1,5 @@
 pub mod Kept
+pub mod Left
 pub mod Objects
 pub mod Ready
 pub mod World

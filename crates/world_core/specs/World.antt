@@ -1,5 +1,5 @@
 -- Clients and servers over one store.
-use Rattle.std.specs.Prelude.{◌≡◌, ◌≢◌, ◌≤◌, ℕ, List, [], ◌∷◌, ◌++◌, Bool, true, false, length, map, slice_get, Some, None}
+use Rattle.std.specs.Prelude.{◌≡◌, ◌≤◌, ℕ, List, [], ◌∷◌, ◌++◌, Bool, true, false, length, map, slice_get, Some, None}
 use Rattle.fs_base.specs.Config.{Settings}
 use Rattle.txn_task.specs.declared.messages.Entry.{Entry}
 use Rattle.client_core.specs.Client.{has_ended, new_client}
@@ -13,6 +13,7 @@ use Rattle.run_record.specs.declared.run.Listed.{Listed}
 use Rattle.request_run.specs.Served.{AreCovered}
 use Rattle.world_core.specs.Kept.{IsSeat}
 use Rattle.request_run.specs.Entries.{entries_of}
+use Rattle.world_core.specs.Left.{EndsOne, GoesOn}
 use Rattle.world_core.specs.Objects.{Objects}
 use Rattle.request_run.specs.Sound.{IsOpen}
 use Rattle.world_core.specs.declared.seats.Seat.{Seat}
@@ -84,15 +85,11 @@ HasEnded w client ended = (seat : Seat) → slice_get w.seats client ≡ Some se
 -- where it has nothing left nothing changes
 abbrev pub IsTurn : WorldView → WorldView → ℕ → Turn → Type 0
 IsTurn old new client turns.Idle = HasEnded old client true × (new ≡ old)
-IsTurn old new client turns.Went = HasEnded old client false
-
--- the client has ended another number of operations
-abbrev pub EndsOp : WorldView → WorldView → ℕ → Type 0
-EndsOp old new client = (before after : Seat) → slice_get old.seats client ≡ Some before → slice_get new.seats client ≡ Some after → after.client.op ≢ before.client.op
+IsTurn old new client turns.Went = HasEnded old client false × GoesOn old.seats new.seats client
 
 abbrev pub IsOpTurn : WorldView → WorldView → ℕ → Turn → Type 0
 IsOpTurn old new client turns.Idle = HasEnded old client true × (new ≡ old)
-IsOpTurn old new client turns.Went = HasEnded old client false × EndsOp old new client
+IsOpTurn old new client turns.Went = HasEnded old client false × EndsOne old.seats new.seats client
 
 abbrev pub items_of : Schedule → List ℕ
 items_of (Items items) = items

@@ -17,6 +17,7 @@ ghost use Rattle.client_core.specs.Plans.{AreDistinct, IsScript};
 ghost use Rattle.request_run.specs.Served.{AreCovered};
 ghost use Rattle.world_core.specs.Kept.{IsPast, IsSeat, IsWork};
 ghost use Rattle.world_core.specs.World.{AreSeated, scripts_of};
+ghost use Rattle.world_core.specs.Left.{GoesOn, IsOneMore};
 ghost use Rattle.world_core.specs.declared.seats.Seat.{Seat as SeatView};
 ghost use Rattle.request_run.specs.Entries.{IsGrowth, entries_of, with_entry};
 ghost use Rattle.request_run.specs.Answered.{IsExchange, IsAnswer, MayAnswer};
@@ -109,6 +110,7 @@ pub(crate) fn start(
     requires seat { IsSeat config attempts (entries_of store.now.journal) k seat.old }
     ensures seat { OnOk result (IsSeat config attempts (entries_of store.now.journal) k seat.new) }
     ensures script { seat.new.client.script ≡ seat.old.client.script }
+    ensures op { OnOk result (seat.new.client.op ≡ seat.old.client.op) }
 {
     if seat.work.is_some() {
         return Ok(());
@@ -198,6 +200,7 @@ fn finish(
     requires ready { IsReady config _attempts (entries_of _store.now.journal) k seat.old.client.script seat.old.client.op seat.old.receipts front task asks.Done }
     ensures seat { OnOk result (IsSeat config _attempts (entries_of _store.now.journal) k seat.new) }
     ensures script { seat.new.client.script ≡ seat.old.client.script }
+    ensures op { OnOk result (seat.new.client.op ≡ seat.old.client.op + 1) }
 {
     let outcome = outcome_of(alloc, &task)?;
     let_go(task);
@@ -237,6 +240,7 @@ fn settle(
     requires ready { IsReady config attempts (entries_of store.now.journal) k seat.old.client.script seat.old.client.op seat.old.receipts work.front work.task work.ask }
     ensures seat { OnOk result (IsSeat config attempts (entries_of store.now.journal) k seat.new) }
     ensures script { seat.new.client.script ≡ seat.old.client.script }
+    ensures op { OnOk result (IsOneMore seat.old.client.op seat.new.client.op) }
 {
     if !is_done(&work.ask) {
         set_work(seat, work);
@@ -306,6 +310,7 @@ pub(crate) fn go_on(
     ensures step { IsGrowth store.old store.new seat.old.client.script.id }
     ensures covered { OnOk result (AreCovered config (entries_of store.new.journal)) }
     ensures script { seat.new.client.script ≡ seat.old.client.script }
+    ensures op { OnOk result (IsOneMore seat.old.client.op seat.new.client.op) }
 {
     let Some(work) = take_work(seat) else {
         return Ok(());
@@ -343,6 +348,7 @@ pub(crate) fn event(
     ensures config { store.new.config ≡ store.old.config }
     ensures begun { IsOpen store.new }
     ensures step { (seat : SeatView) → slice_get seats.old.items k ≡ Some seat → IsGrowth store.old store.new seat.client.script.id }
+    ensures goes { OnOk result (GoesOn seats.old.items seats.new.items k) }
 {
     sound_store(store);
     let seat = &mut seats[usize::from(k)];

@@ -1,10 +1,11 @@
-ghost use Rattle.std.specs.Prelude.{◌≡◌, ◌⊎◌, ◌≤◌, ◌<◌, ◌+◌, ℕ, [], Some, true, false, length, slice_get, All, IfOk, OnOk};
+ghost use Rattle.std.specs.Prelude.{◌≡◌, ◌⊎◌, ◌≤◌, ◌<◌, ◌+◌, ℕ, [], Some, true, false, length, slice_get, All, IfOk, OnOk, OnErr};
 ghost use Rattle.client_core.specs.Client.{has_ended};
 ghost use Rattle.client_core.specs.Plans.{IsPlan, IsSchedule, IsScript, NamesClient};
 ghost use Rattle.run_record.specs.Right.{IsRight};
 ghost use Rattle.world_core.specs.Objects.{IsStep};
 ghost use Rattle.request_run.specs.Sound.{IsOpen};
-ghost use Rattle.world_core.specs.World.{EndsOp, HaveEnded, IsOpTurn, IsTurn, items_of, new_seat, plan_of, seats_of};
+ghost use Rattle.world_core.specs.Left.{AreAhead, EndsOne, has_left};
+ghost use Rattle.world_core.specs.World.{IsOpTurn, IsTurn, items_of, new_seat, plan_of, seats_of};
 ghost use Rattle.world_core.specs.declared.seats.Seat.{Seat as SeatView};
 
 use crate::record::record_of;
@@ -139,7 +140,7 @@ impl World {
     /// One turn of a client: at most one ask, answered by one object. `Idle` exactly where the client has nothing left.
     ///
     /// Where no request of the client is under way, it sends its next one first; where the answer ends the request,
-    /// the client learns it in the same turn.
+    /// the client learns it in the same turn. A world that wanted memory answers so from then on.
     pub fn turn(&mut self, client: u16) -> Result<Turn, Memory>
         requires { client < length self.old.seats }
         ensures turn { IfOk result (λ turn. IsTurn self.old self.new client turn) }
@@ -147,6 +148,7 @@ impl World {
         ensures plan { plan_of self.new ≡ plan_of self.old }
         ensures before { OnOk result (self.old.failed ≡ false) }
         ensures alive { OnOk result (self.new.failed ≡ false) }
+        ensures err { OnErr result (self.new.failed ≡ true) }
     {
         if self.failed {
             return Err(Memory);
@@ -173,6 +175,8 @@ impl World {
         ensures turn { IfOk result (λ turn. IsOpTurn self.old self.new client turn) }
         ensures plan { plan_of self.new ≡ plan_of self.old }
         ensures before { OnOk result (self.old.failed ≡ false) }
+        ensures alive { OnOk result (self.new.failed ≡ false) }
+        ensures err { OnErr result (self.new.failed ≡ true) }
     {
         if self.failed {
             return Err(Memory);
@@ -186,8 +190,10 @@ impl World {
 
     fn end_op(&mut self, client: u16) -> Result<(), Memory>
         requires { client < length self.old.seats }
-        ensures ended { OnOk result (EndsOp self.old self.new client) }
+        ensures ended { OnOk result (EndsOne self.old.seats self.new.seats client) }
         ensures plan { plan_of self.new ≡ plan_of self.old }
+        ensures alive { OnOk result (self.new.failed ≡ false) }
+        ensures err { OnErr result (self.new.failed ≡ true) }
     {
         let before = self.seats[usize::from(client)].client.ended_ops();
         // An operation ends after far fewer turns than this; its contract doesn't count them.
@@ -197,6 +203,7 @@ impl World {
                 return Ok(());
             }
         }
+        self.failed = true;
         Err(Memory)
     }
 
@@ -225,7 +232,9 @@ impl World {
 
     /// A whole operation of each client that has one left.
     fn round(&mut self) -> Result<(), Memory>
+        ensures ahead { (rounds : ℕ) → AreAhead rounds self.old.seats → OnOk result (AreAhead (rounds + 1) self.new.seats) }
         ensures plan { plan_of self.new ≡ plan_of self.old }
+        ensures alive { self.old.failed ≡ false → OnOk result (self.new.failed ≡ false) }
     {
         for client in 0..self.seats.len() {
             self.op(client as u16)?;
@@ -234,9 +243,37 @@ impl World {
     }
 
     fn has_left(&self) -> bool
-        ensures { result ≡ false → HaveEnded self.now.seats }
+        ensures { result ≡ has_left self.now.seats }
     {
         self.seats.iter().any(|seat| !seat.client.has_ended())
+    }
+
+    /// Rounds until no client has anything left.
+    fn rounds(&mut self) -> Result<(), Memory>
+        ensures left { OnOk result (has_left self.new.seats ≡ false) }
+        ensures plan { plan_of self.new ≡ plan_of self.old }
+    {
+        if self.failed {
+            return Err(Memory);
+        }
+        // A script has at most 4,000 operations.
+        for _done in 0..4000u16 {
+            if !self.has_left() {
+                return Ok(());
+            }
+            self.round()?;
+        }
+        self.enough_rounds();
+        Ok(())
+    }
+
+    /// Tells that clients which are so many operations ahead have nothing left. It does nothing.
+    fn enough_rounds(&self)
+        requires ahead { AreAhead 4000 self.now.seats }
+        requires alive { self.now.failed ≡ false }
+        ensures { has_left self.now.seats ≡ false }
+    {
+        let _failed = self.failed;
     }
 
     /// The plan's schedule, and then rounds until no client has anything left: in each, every client that has does one whole operation.
@@ -244,21 +281,16 @@ impl World {
         ensures { IfOk result (λ run. IsRight (plan_of self) run) }
     {
         self.take_schedule()?;
-        // A script has at most 4,000 operations.
-        for _ in 0..4000u16 {
-            if !self.has_left() {
-                break;
-            }
-            self.round()?;
-        }
+        self.rounds()?;
         self.into_record()
     }
 
     /// What is kept of a run that has ended.
     fn into_record(self) -> Result<Record, Memory>
+        requires { has_left self.seats ≡ false }
         ensures { IfOk result (λ run. IsRight (plan_of self) run) }
     {
-        if self.failed || self.has_left() {
+        if self.failed {
             return Err(Memory);
         }
         let World {

@@ -1,4 +1,6 @@
-use Rattle.std.proofs.Common.{◌∙◌}
+use Rattle.std.proofs.Common.{◌∙◌, subst}
+use Rattle.world_core.specs.Left.{IsOneMore}
+use Rattle.world_core.proofs.Ahead.{goes_there}
 use Rattle.request_run.specs.Entries.{entries_of}
 use Rattle.world_core.proofs.Calls.{config_grown, open_grown}
 use Rattle.world_core.proofs.Seating.{growth_there, scripts_there, seat_kept, seated_there}
@@ -47,3 +49,8 @@ returns-clause-config c = config_grown c.args.store.now c.go_on.new.store c.star
 
 pub returns-clause-begun : goal.returns-clause-begun
 returns-clause-begun c = open_grown c.args.store.now c.go_on.new.store c.start.new.seat.client.script.id c.requires.begun c.go_on.ensures.step
+
+pub returns-clause-goes : goal.returns-clause-goes
+returns-clause-goes c =
+    goes_there c.args.seats.now.items c.from.result c.args.k c.index_mut-seat.result.now c.go_on.new.seat c.from.ensures c.requires.within c.index_mut-seat.ensures.value
+    (subst (λ n. IsOneMore n c.go_on.new.seat.client.op) c.in_ok-start.ensures.op c.in_ok-go_on.ensures.op)

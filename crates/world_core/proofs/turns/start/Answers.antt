@@ -1,3 +1,5 @@
+use Rattle.std.specs.Prelude.{slice_get}
+use Rattle.world_core.proofs.Ahead.{send_op}
 use Rattle.std.proofs.Common.{◌∙◌, Some, ap, sym}
 use Rattle.request_run.specs.Entries.{entries_of}
 use Rattle.world_core.specs.declared.seats.Seat.{Seat}
@@ -13,3 +15,10 @@ returns-in_ok-work-in-Send-clause-seat c =
     c.in_ok-work-in-Send.ensures.task c.in_ok-work-in-Send.ensures.ask c.in_ok-work-in-Send.ensures.server
     (c.in_ok-work-in-Send.ensures.front ∙ sym (length_entries c.args.store.now.journal))
     (c.set_work.ensures ∙ ap (λ (s : Seat). record s { work = Some c.in_ok-work-in-Send.work }) c.in_ok-server.ensures.seat)
+
+pub returns-in_ok-work-in-Send-clause-op : goal.returns-in_ok-work-in-Send-clause-op
+returns-in_ok-work-in-Send-clause-op c =
+    ap (λ (s : Seat). s.client.op) (c.set_work.ensures ∙ ap (λ (s : Seat). record s { work = Some c.in_ok-work-in-Send.work }) c.in_ok-server.ensures.seat) ∙ send_op c.args.seat.now.client (slice_get c.args.seat.now.client.script.ops c.args.seat.now.client.op)
+
+pub returns-in-Ended-clause-op : goal.returns-in-Ended-clause-op
+returns-in-Ended-clause-op c = ap (λ (s : Seat). s.client.op) c.in_ok-server.ensures.seat ∙ send_op c.args.seat.now.client (slice_get c.args.seat.now.client.script.ops c.args.seat.now.client.op)

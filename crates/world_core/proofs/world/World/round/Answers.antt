@@ -1,10 +1,28 @@
-use Rattle.std.proofs.Common.{◌≡◌, length, ap, rules}
+use Rattle.std.proofs.Common.{◌≡◌, ◌<◌, ◌≤◌, ◌∙◌, length, ap, rules}
 use Rattle.world_core.specs.World.{WorldView}
+use Rattle.world_core.proofs.Ahead.{ahead_more, op_ahead}
 use Rattle.world_core.proofs.Closing.{same_seats}
 use Rattle.world_core.proofs.world.World.round.Goals as goal
 
 pub op-requires : goal.op-requires
 op-requires c =
-    let kept : length c.loop-client.self.seats ≡ length c.args.self.now.seats = same_seats c.loop-client.self c.args.self.now c.loop-client.invariant in
+    let kept : length c.loop-client.self.seats ≡ length c.args.self.now.seats = same_seats c.loop-client.self c.args.self.now c.loop-client.invariant.0 in
     let view : length c.self.inside.seats.items ≡ length c.args.self.now.seats = ap (λ (w : WorldView). length w.seats) c.self.view_is in
     search (rules, kept, view)
+
+pub loop-client-preserved : goal.loop-client-preserved
+loop-client-preserved c =
+    let kept : length c.loop-client.self.seats ≡ length c.args.self.now.seats = same_seats c.loop-client.self c.args.self.now c.loop-client.invariant.0 in
+    let view : length c.self.inside.seats.items ≡ length c.args.self.now.seats = ap (λ (w : WorldView). length w.seats) c.self.view_is in
+    let within : c.loop-client.client < length c.loop-client.self.seats = search (rules, kept, view) in (
+      c.in_ok-op.ensures.plan ∙ c.loop-client.invariant.0,
+      (λ before. c.in_ok-op.ensures.alive),
+      (λ rounds h. op_ahead rounds c.loop-client.client c.loop-client.self c.op.new.self c.in_ok-op.field-0 within c.in_ok-op.ensures.plan c.in_ok-op.ensures.turn (c.loop-client.invariant.2 rounds h)),
+    )
+
+pub returns-clause-ahead : goal.returns-clause-ahead
+returns-clause-ahead c =
+    let kept : length c.loop-client.self.seats ≡ length c.args.self.now.seats = same_seats c.loop-client.self c.args.self.now c.loop-client.invariant.0 in
+    let view : length c.self.inside.seats.items ≡ length c.args.self.now.seats = ap (λ (w : WorldView). length w.seats) c.self.view_is in
+    let all : length c.loop-client.self.seats ≤ c.loop-client.client = search (rules, kept, view) in
+    λ rounds h. ahead_more rounds c.loop-client.client c.loop-client.self.seats all (c.loop-client.invariant.2 rounds h)

@@ -1,6 +1,7 @@
-use Rattle.std.proofs.Common.{◌<◌, Some, length, sym, ap, subst, ◌∙◌}
+use Rattle.std.proofs.Common.{◌<◌, length, sym, ap, subst, ◌∙◌}
 use Rattle.std.specs.Prelude.{slice_get}
 use Rattle.world_core.specs.Objects.{no_histories}
+use Rattle.world_core.specs.Left.{GoesOn}
 use Rattle.world_core.specs.World.{WorldView}
 use Rattle.world_core.proofs.Closing.{grown_step, not_ended, world_went}
 use Rattle.world_core.proofs.world.World.turn.Goals as goal
@@ -17,10 +18,12 @@ invariant_of-self-2 c =
     c.self.invariant c.event.ensures.scripts c.event.ensures.config c.event.ensures.begun c.in_ok-event.ensures.seated
 
 pub returns-clause-turn : goal.returns-clause-turn
-returns-clause-turn c =
-    λ seat at.
-    not_ended c.self.inside.seats.items c.from.result c.args.client c.index.result.now c.has_ended.result c.from.ensures (subst (λ (w : WorldView). c.args.client < length w.seats) (sym c.self.view_is) c.requires) c.index.ensures
-    c.has_ended.ensures c.if-has_ended.false seat (ap (λ (w : WorldView). slice_get w.seats c.args.client) c.self.view_is ∙ at)
+returns-clause-turn c = (
+  λ seat at.
+      not_ended c.self.inside.seats.items c.from.result c.args.client c.index.result.now c.has_ended.result c.from.ensures (subst (λ (w : WorldView). c.args.client < length w.seats) (sym c.self.view_is) c.requires) c.index.ensures
+      c.has_ended.ensures c.if-has_ended.false seat (ap (λ (w : WorldView). slice_get w.seats c.args.client) c.self.view_is ∙ at),
+  subst (λ (w : WorldView). GoesOn w.seats c.event.new.seats.items c.args.client) c.self.view_is c.in_ok-event.ensures.goes,
+)
 
 pub returns-clause-step : goal.returns-clause-step
 returns-clause-step c =

@@ -1,0 +1,200 @@
+-- Turns, operations and rounds bring clients nearer to their scripts' ends.
+use Rattle.std.proofs.Common.{◌≡◌, ◌≢◌, ℕ, zero, suc, ◌+◌, ◌<◌, ◌≤◌, inl, inr, Bool, true, false, not, ◌||◌, List, [], ◌∷◌, Some, None, Option, length, set, get_or, refl, sym, ap, subst, ◌∙◌, arith}
+use Rattle.std.specs.Prelude.{slice_get}
+use Rattle.std.specs.List.{list_any}
+use Rattle.std.proofs.lemmas.Bool.{cases_eq}
+use Rattle.std.proofs.lemmas.Bool.Decides.{nat_tests}
+use Rattle.std.proofs.lemmas.Option.{slice_get_within, same_Some}
+use Rattle.fs_base.specs.Config.{Settings}
+use Rattle.txn_task.specs.declared.messages.Entry.{Entry}
+use Rattle.client_core.specs.Client.{ClientView, end_call, has_ended, send}
+use Rattle.client_core.specs.declared.messages.ClientAsk.TheVariants as client_asks
+use Rattle.client_core.specs.declared.plan.Op.{Op}
+use Rattle.txn_task.specs.declared.outcome.Outcome.{Outcome}
+use Rattle.txn_task.specs.declared.outcome.Receipt.{Receipt}
+use Rattle.run_record.specs.declared.run.Listed.{Listed}
+use Rattle.world_core.specs.declared.seats.Work.{Work}
+use Rattle.client_core.specs.declared.plan.Plan.{Plan}
+use Rattle.client_core.specs.declared.plan.Script.{Script}
+use Rattle.world_core.specs.Kept.{IsSeat, IsWorking}
+use Rattle.world_core.specs.Left.{AreAhead, EndsOne, GoesOn, IsAhead, IsOneMore, KeepsOthers, has_left}
+use Rattle.world_core.specs.World.{AllSeats, HaveEnded, IsOpTurn, IsTurn, WorldView, plan_of, scripts_of}
+use Rattle.world_core.specs.declared.world.Turn.{Turn}
+use Rattle.world_core.specs.declared.world.Turn.TheVariants as turns
+use Rattle.world_core.specs.declared.seats.Seat.{Seat}
+use Rattle.world_core.proofs.Seating.{script_at, seat_there, slice_get-set_other, slice_get-set_same}
+
+-- ---- one turn
+
+pub send_op : (c : ClientView) (o : Option Op) → (send c o).0.op ≡ c.op
+send_op c None = refl
+send_op c (Some step) = refl
+
+pub end_op : (c : ClientView) (server : ℕ) (outcome : Outcome) (o : Option Op) (receipt : Receipt) → client_asks.CallEnd (receipt ∷ []) true ≡ (end_call c server outcome o).1 → (end_call c server outcome o).0.op ≡ c.op + 1
+end_op c server outcome None receipt e = absurd (cc)
+end_op c server outcome (Some step) receipt e = refl
+
+pub there : (seats : List Seat) (k : ℕ) → k < length seats → (seat : Seat) × (slice_get seats k ≡ Some seat)
+there [] k l = absurd (omega arith)
+there (seat ∷ seats) zero l = (seat, refl)
+there (seat ∷ seats) (suc k) l = there seats k (omega arith)
+
+-- one seat is another
+pub goes_there : (seats : List Seat) (i k : ℕ) (x y : Seat) → i ≡ k → k < length seats → x ≡ get_or seats i x → IsOneMore x.client.op y.client.op → GoesOn seats (set seats i y) k
+goes_there seats i k x y same l is more = subst (λ n. GoesOn seats (set seats n y) k) (sym same) (record { others = λ j apart. slice_get-set_other seats k j y apart; own = own })
+  where
+    at_x : slice_get seats k ≡ Some x
+    at_x = seat_there seats i k x same l is
+
+    own : (before after : Seat) → slice_get seats k ≡ Some before → slice_get (set seats k y) k ≡ Some after → IsOneMore before.client.op after.client.op
+    own before after at_before at_after =
+        let old : x ≡ before = same_Some x before (sym at_x ∙ at_before) in
+        let new : y ≡ after = same_Some y after (sym (slice_get-set_same seats k y l) ∙ at_after) in
+        subst (λ (b : Seat). IsOneMore b.client.op after.client.op) old
+        (subst (λ (a : Seat). IsOneMore x.client.op a.client.op) new more)
+
+-- ---- turns of one operation
+
+-- no operation has ended
+pub record Stays (old new : List Seat) (k : ℕ) : Type 0 where
+  pub others : KeepsOthers old new k
+  pub own : (before after : Seat) → slice_get old k ≡ Some before → slice_get new k ≡ Some after → after.client.op ≡ before.client.op
+
+pub stays : (seats : List Seat) (k : ℕ) → Stays seats seats k
+stays seats k = record {
+  others = λ j apart. refl;
+  own = λ before after at_before at_after. ap (λ (s : Seat). s.client.op) (same_Some after before (sym at_after ∙ at_before));
+}
+
+module _ (old mid new : List Seat) (k : ℕ) (within : k < length mid) (so_far : Stays old mid k) (turn : GoesOn mid new k) where
+  others : KeepsOthers old new k
+  others j apart = turn.others j apart ∙ so_far.others j apart
+
+  pub stays_on : ((before after : Seat) → slice_get old k ≡ Some before → slice_get new k ≡ Some after → after.client.op ≡ before.client.op) → Stays old new k
+  stays_on same = record { others = others; own = same }
+
+  pub ends_one : ((before after : Seat) → slice_get old k ≡ Some before → slice_get new k ≡ Some after → after.client.op ≢ before.client.op) → EndsOne old new k
+  ends_one apart = record { others = others; own = own }
+    where
+      own : (before after : Seat) → slice_get old k ≡ Some before → slice_get new k ≡ Some after → after.client.op ≡ before.client.op + 1
+      own before after at_before at_after =
+          let between : (seat : Seat) × (slice_get mid k ≡ Some seat) = there mid k within in
+          let same : between.0.client.op ≡ before.client.op = so_far.own before between.0 at_before between.1 in
+          elim (turn.own between.0 after between.1 at_after) [
+            | inl still ↦ absurd (apart before after at_before at_after (still ∙ same))
+            | inr more ↦ more ∙ ap (λ n. n + 1) same
+          ]
+
+-- a turn, whatever it did
+pub turn_goes : (old new : WorldView) (k : ℕ) (turn : Turn) → IsTurn old new k turn → GoesOn old.seats new.seats k
+turn_goes old new k turns.Idle h = subst (λ (w : WorldView). GoesOn old.seats w.seats k) (sym h.1) (record { others = λ j apart. refl; own = λ before after at_before at_after. inl (ap (λ (s : Seat). s.client.op) (same_Some after before (sym at_after ∙ at_before))) })
+turn_goes old new k turns.Went h = h.1
+
+module _ (old new : List Seat) (k : ℕ) (x y : Seat) (m n : ℕ) (at_x : slice_get old k ≡ Some x) (at_y : slice_get new k ≡ Some y) (is_m : m ≡ x.client.op) (is_n : n ≡ y.client.op) where
+  op_of : (seats : List Seat) (x seat : Seat) → slice_get seats k ≡ Some x → slice_get seats k ≡ Some seat → x.client.op ≡ seat.client.op
+  op_of seats x seat at_x at = ap (λ (s : Seat). s.client.op) (same_Some x seat (sym at_x ∙ at))
+
+  pub ops_same : n ≡ m → (before after : Seat) → slice_get old k ≡ Some before → slice_get new k ≡ Some after → after.client.op ≡ before.client.op
+  ops_same same before after at_before at_after = sym (op_of new y after at_y at_after) ∙ (sym is_n ∙ (same ∙ (is_m ∙ op_of old x before at_x at_before)))
+
+  pub ops_apart : n ≢ m → (before after : Seat) → slice_get old k ≡ Some before → slice_get new k ≡ Some after → after.client.op ≢ before.client.op
+  ops_apart apart before after at_before at_after e = apart (is_n ∙ (op_of new y after at_y at_after ∙ (e ∙ (sym (op_of old x before at_x at_before) ∙ sym is_m))))
+
+-- ---- rounds
+
+-- the clients before c have been asked for one more operation than the others
+abbrev pub AreAheadTo : ℕ → ℕ → List Seat → Type 0
+AreAheadTo rounds c seats = (k : ℕ) (seat : Seat) → slice_get seats k ≡ Some seat → IsAhead rounds seat × (k < c → IsAhead (rounds + 1) seat)
+
+pub ahead_to : (rounds : ℕ) (seats : List Seat) → AreAhead rounds seats → AreAheadTo rounds 0 seats
+ahead_to rounds seats h k seat at = (h k seat at, λ none. absurd (omega arith))
+
+pub ahead_more : (rounds c : ℕ) (seats : List Seat) → length seats ≤ c → AreAheadTo rounds c seats → AreAhead (rounds + 1) seats
+ahead_more rounds c seats all h k seat at = let l : k < length seats = slice_get_within seats k seat at in (h k seat at).1 (omega arith)
+
+all_ended : (c : ClientView) → has_ended c ≡ true → length c.script.ops ≤ c.op
+all_ended c ended = grind (arith, nat_tests)
+
+-- the next client had nothing left
+pub ahead_idle : (rounds c : ℕ) (seats : List Seat) → ((seat : Seat) → slice_get seats c ≡ Some seat → has_ended seat.client ≡ true) → AreAheadTo rounds c seats → AreAheadTo rounds (c + 1) seats
+ahead_idle rounds c seats ended h k seat at = ((h k seat at).0, next)
+  where
+    next : k < c + 1 → IsAhead (rounds + 1) seat
+    next l = elim (cases_eq k c) [
+      | inl same ↦ inr (all_ended seat.client (ended seat (ap (slice_get seats) (sym same) ∙ at)))
+      | inr apart ↦ (h k seat at).1 (omega arith)
+    ]
+
+one_ahead : (rounds : ℕ) (before after : Seat) → after.client.script ≡ before.client.script → after.client.op ≡ before.client.op + 1 → IsAhead rounds before → IsAhead (rounds + 1) after
+one_ahead rounds before after script more (inl some) = inl (omega arith)
+one_ahead rounds before after script more (inr all) =
+    let same : length after.client.script.ops ≡ length before.client.script.ops = ap (λ (s : Script). length s.ops) script in
+    inr (omega arith)
+
+-- an operation of the next client has ended
+pub ahead_went : (rounds c : ℕ) (old new : List Seat) → c < length old → scripts_of new ≡ scripts_of old → EndsOne old new c → AreAheadTo rounds c old → AreAheadTo rounds (c + 1) new
+ahead_went rounds c old new l scripts one h k seat at = elim (cases_eq k c) [ inl same ↦ here same | inr apart ↦ other apart ]
+  where
+    here : k ≡ c → IsAhead rounds seat × (k < c + 1 → IsAhead (rounds + 1) seat)
+    here same =
+        let before : (b : Seat) × (slice_get old c ≡ Some b) = there old c l in
+        let at_c : slice_get new c ≡ Some seat = ap (slice_get new) (sym same) ∙ at in
+        let more : seat.client.op ≡ before.0.client.op + 1 = one.own before.0 seat before.1 at_c in
+        let script : seat.client.script ≡ before.0.client.script = same_Some seat.client.script before.0.client.script (sym (script_at new c seat at_c) ∙ (ap (λ (ss : List Script). slice_get ss c) scripts ∙ script_at old c before.0 before.1)) in
+        let ahead : IsAhead (rounds + 1) seat = one_ahead rounds before.0 seat script more (h c before.0 before.1).0 in
+        (less rounds seat ahead, λ _. ahead)
+      where
+        less : (rounds : ℕ) (seat : Seat) → IsAhead (rounds + 1) seat → IsAhead rounds seat
+        less rounds seat (inl some) = inl (omega arith)
+        less rounds seat (inr all) = inr all
+
+    other : k ≢ c → IsAhead rounds seat × (k < c + 1 → IsAhead (rounds + 1) seat)
+    other apart =
+        let was : IsAhead rounds seat × (k < c → IsAhead (rounds + 1) seat) = h k seat (sym (one.others k apart) ∙ at) in
+        (was.0, λ below. was.1 (omega arith))
+
+-- a whole operation, whatever it did
+pub op_ahead : (rounds c : ℕ) (old new : WorldView) (turn : Turn) → c < length old.seats → plan_of new ≡ plan_of old → IsOpTurn old new c turn → AreAheadTo rounds c old.seats → AreAheadTo rounds (c + 1) new.seats
+op_ahead rounds c old new turns.Idle l same h ahead = subst (λ (w : WorldView). AreAheadTo rounds (c + 1) w.seats) (sym h.1) (ahead_idle rounds c old.seats h.0 ahead)
+op_ahead rounds c old new turns.Went l same h ahead = ahead_went rounds c old.seats new.seats l (ap (λ (p : Plan). p.clients) same) h.1 ahead
+
+-- ---- no more is left
+
+or_parts : (a b : Bool) → (a || b) ≡ false → (a ≡ false) × (b ≡ false)
+or_parts true b e = absurd (cc)
+or_parts false b e = (refl, e)
+
+not_false : (b : Bool) → not b ≡ false → b ≡ true
+not_false true e = refl
+not_false false e = absurd (cc)
+
+any_none : (test : Seat → Bool) (seats : List Seat) → ((k : ℕ) (seat : Seat) → slice_get seats k ≡ Some seat → test seat ≡ false) → list_any test seats ≡ false
+any_none test [] none = refl
+any_none test (seat ∷ seats) none =
+    let first : test seat ≡ false = none 0 seat refl in
+    let rest : list_any test seats ≡ false = any_none test seats (λ k s at. none (suc k) s at) in
+    ap (λ b. b || list_any test seats) first ∙ rest
+
+none_any : (test : Seat → Bool) (seats : List Seat) → list_any test seats ≡ false → (k : ℕ) (seat : Seat) → slice_get seats k ≡ Some seat → test seat ≡ false
+none_any test [] none k seat at = absurd (let no : None ≡ Some seat = at in cc)
+none_any test (s ∷ seats) none zero seat at = subst (λ (x : Seat). test x ≡ false) (same_Some s seat at) (or_parts (test s) (list_any test seats) none).0
+none_any test (s ∷ seats) none (suc k) seat at = none_any test seats (or_parts (test s) (list_any test seats) none).1 k seat at
+
+pub have_ended : (seats : List Seat) → has_left seats ≡ false → HaveEnded seats
+have_ended seats none k seat at = not_false (has_ended seat.client) (none_any (λ s. not (has_ended s.client)) seats none k seat at)
+
+-- where a request is under way its operation is there
+idle : (C : Settings) (attempts : ℕ) (journal : List Entry) (script : Script) (op : ℕ) (receipts : List Listed) (sent : Bool) (work : Option Work) → IsWorking C attempts journal script op receipts sent work → length script.ops ≤ op → sent ≡ false
+idle C attempts journal script op receipts false work h all = refl
+idle C attempts journal script op receipts true None h all = absurd h
+idle C attempts journal script op receipts true (Some work) h all = absurd (let l : op < length script.ops = slice_get_within script.ops op h.under.step h.under.there in omega arith)
+
+-- a script has at most 4,000 operations, so that as many rounds are enough
+pub none_left : (C : Settings) (attempts : ℕ) (journal : List Entry) (seats : List Seat) → AllSeats C attempts journal seats → AreAhead 4000 seats → has_left seats ≡ false
+none_left C attempts journal seats are ahead = any_none (λ s. not (has_ended s.client)) seats (λ k seat at. ap not (ended seat k (are k seat at) (ahead k seat at)))
+  where
+    ended : (seat : Seat) (k : ℕ) → IsSeat C attempts journal k seat → IsAhead 4000 seat → has_ended seat.client ≡ true
+    ended seat k is far =
+        let all : length seat.client.script.ops ≤ seat.client.op = omega (arith, is.script.short) in
+        let rest : seat.client.sent ≡ false = idle C attempts journal seat.client.script seat.client.op seat.receipts seat.client.sent seat.work is.working all in
+        grind (arith, nat_tests)

@@ -1,6 +1,0 @@
-use Rattle.std.proofs.Common.{◌≡◌}
-use Rattle.world_core.specs.World.{plan_of}
-use Rattle.world_core.proofs.world.World.run.Given as goal
-
-abbrev pub invariant-loop : goal.invariant-loop
-invariant-loop l = plan_of l.self ≡ plan_of l.fn.self

@@ -1,0 +1,34 @@
+-- What clients have left, and how it grows less.
+use Rattle.std.specs.Prelude.{◌≡◌, ◌≢◌, ◌⊎◌, ◌≤◌, ℕ, ◌+◌, List, length, slice_get, Some, Bool, not}
+use Rattle.std.specs.List.{list_any}
+use Rattle.client_core.specs.Client.{has_ended}
+use Rattle.world_core.specs.declared.seats.Seat.{Seat}
+
+-- some client has something left
+abbrev pub has_left : List Seat → Bool
+has_left seats = list_any (λ seat. not (has_ended seat.client)) seats
+
+-- each other client is as it was
+abbrev pub KeepsOthers : List Seat → List Seat → ℕ → Type 0
+KeepsOthers old new client = (j : ℕ) → j ≢ client → slice_get new j ≡ slice_get old j
+
+-- as many as before, or one more
+abbrev pub IsOneMore : ℕ → ℕ → Type 0
+IsOneMore before after = (after ≡ before) ⊎ (after ≡ before + 1)
+
+-- a turn of a client: at most one more of its operations has ended, and each other client is as it was
+pub record GoesOn (old new : List Seat) (client : ℕ) : Type 0 where
+  pub others : KeepsOthers old new client
+  pub own : (before after : Seat) → slice_get old client ≡ Some before → slice_get new client ≡ Some after → IsOneMore before.client.op after.client.op
+
+-- a whole operation of a client: one more has ended, and each other client is as it was
+pub record EndsOne (old new : List Seat) (client : ℕ) : Type 0 where
+  pub others : KeepsOthers old new client
+  pub own : (before after : Seat) → slice_get old client ≡ Some before → slice_get new client ≡ Some after → after.client.op ≡ before.client.op + 1
+
+-- so many operations of the client have ended, or all
+abbrev pub IsAhead : ℕ → Seat → Type 0
+IsAhead rounds seat = (rounds ≤ seat.client.op) ⊎ (length seat.client.script.ops ≤ seat.client.op)
+
+abbrev pub AreAhead : ℕ → List Seat → Type 0
+AreAhead rounds seats = (k : ℕ) (seat : Seat) → slice_get seats k ≡ Some seat → IsAhead rounds seat
