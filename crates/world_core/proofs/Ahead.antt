@@ -7,7 +7,7 @@ use Rattle.std.proofs.lemmas.Bool.Decides.{nat_tests}
 use Rattle.std.proofs.lemmas.Option.{slice_get_within, same_Some}
 use Rattle.fs_base.specs.Config.{Settings}
 use Rattle.txn_task.specs.declared.messages.Entry.{Entry}
-use Rattle.client_core.specs.Client.{ClientView, end_call, has_ended, send}
+use Rattle.client_core.specs.Client.{ClientView, end_call, has_ended}
 use Rattle.client_core.specs.declared.messages.ClientAsk.TheVariants as client_asks
 use Rattle.client_core.specs.declared.plan.Op.{Op}
 use Rattle.txn_task.specs.declared.outcome.Outcome.{Outcome}
@@ -25,10 +25,6 @@ use Rattle.world_core.specs.declared.seats.Seat.{Seat}
 use Rattle.world_core.proofs.Seating.{script_at, seat_there, slice_get-set_other, slice_get-set_same}
 
 -- ---- one turn
-
-pub send_op : (c : ClientView) (o : Option Op) → (send c o).0.op ≡ c.op
-send_op c None = refl
-send_op c (Some step) = refl
 
 pub end_op : (c : ClientView) (server : ℕ) (outcome : Outcome) (o : Option Op) (receipt : Receipt) → client_asks.CallEnd (receipt ∷ []) true ≡ (end_call c server outcome o).1 → (end_call c server outcome o).0.op ≡ c.op + 1
 end_op c server outcome None receipt e = absurd (cc)

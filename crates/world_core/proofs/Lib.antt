@@ -3,6 +3,7 @@ pub mod Calls
 pub mod Closing
 pub mod Counting
 pub mod Ends
+pub mod EventLaws
 pub mod Growth
 pub mod Named
 pub mod Righting

@@ -13,6 +13,7 @@ use Rattle.run_record.specs.declared.run.Listed.{Listed}
 use Rattle.request_run.specs.Served.{AreCovered}
 use Rattle.world_core.specs.Kept.{IsSeat}
 use Rattle.request_run.specs.Entries.{entries_of}
+use Rattle.world_core.specs.Events.{IsEvent}
 use Rattle.world_core.specs.Left.{EndsOne, GoesOn}
 use Rattle.world_core.specs.Objects.{Objects}
 use Rattle.request_run.specs.Sound.{IsOpen}
@@ -82,10 +83,16 @@ seats_of C scripts = map (λ script. new_seat C script) scripts
 abbrev pub HasEnded : WorldView → ℕ → Bool → Type 0
 HasEnded w client ended = (seat : Seat) → slice_get w.seats client ≡ Some seat → has_ended seat.client ≡ ended
 
+-- one event of the client
+abbrev pub HasEvent : WorldView → WorldView → ℕ → Type 0
+HasEvent old new client =
+    (before after : Seat) → slice_get old.seats client ≡ Some before → slice_get new.seats client ≡ Some after
+    → IsEvent old.config old.attempts client (entries_of old.objects.store.journal) (entries_of new.objects.store.journal) before after
+
 -- where it has nothing left nothing changes
 abbrev pub IsTurn : WorldView → WorldView → ℕ → Turn → Type 0
 IsTurn old new client turns.Idle = HasEnded old client true × (new ≡ old)
-IsTurn old new client turns.Went = HasEnded old client false × GoesOn old.seats new.seats client
+IsTurn old new client turns.Went = HasEnded old client false × GoesOn old.seats new.seats client × HasEvent old new client
 
 abbrev pub IsOpTurn : WorldView → WorldView → ℕ → Turn → Type 0
 IsOpTurn old new client turns.Idle = HasEnded old client true × (new ≡ old)

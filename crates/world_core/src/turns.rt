@@ -17,7 +17,10 @@ ghost use Rattle.client_core.specs.Plans.{AreDistinct, IsScript};
 ghost use Rattle.request_run.specs.Served.{AreCovered};
 ghost use Rattle.world_core.specs.Kept.{IsPast, IsSeat, IsWork};
 ghost use Rattle.world_core.specs.World.{AreSeated, scripts_of};
+ghost use Rattle.client_core.specs.Client.{has_ended};
+ghost use Rattle.world_core.specs.Events.{Comes, HasExchanged, HasLearned, IsAtWork, IsEvent};
 ghost use Rattle.world_core.specs.Left.{GoesOn, IsOneMore};
+ghost use Rattle.world_core.specs.declared.seats.Work.{Work as WorkView};
 ghost use Rattle.world_core.specs.declared.seats.Seat.{Seat as SeatView};
 ghost use Rattle.request_run.specs.Entries.{IsGrowth, entries_of, with_entry};
 ghost use Rattle.request_run.specs.Answered.{IsExchange, IsAnswer, MayAnswer};
@@ -95,7 +98,7 @@ fn new_work(
     })
 }
 
-/// Sends the client's next request, where none is under way and one is left.
+/// Sends the client's next request, where none is under way.
 pub(crate) fn start(
     alloc: Global,
     store: &KvState<MetaEntry>,
@@ -108,9 +111,11 @@ pub(crate) fn start(
     requires from { 1 ≤ attempts }
     requires to { attempts ≤ 64 }
     requires seat { IsSeat config attempts (entries_of store.now.journal) k seat.old }
+    requires left { has_ended seat.old.client ≡ false }
     ensures seat { OnOk result (IsSeat config attempts (entries_of store.now.journal) k seat.new) }
     ensures script { seat.new.client.script ≡ seat.old.client.script }
     ensures op { OnOk result (seat.new.client.op ≡ seat.old.client.op) }
+    ensures at_work { OnOk result (IsAtWork config attempts (length store.now.journal) seat.old seat.new seat.old.work) }
 {
     if seat.work.is_some() {
         return Ok(());
@@ -121,7 +126,7 @@ pub(crate) fn start(
             set_work(seat, work);
             Ok(())
         }
-        ClientAsk::Ended => Ok(()),
+        ClientAsk::Ended => unreachable!(),
         ClientAsk::CallEnd { .. } => unreachable!(),
     }
 }
@@ -201,6 +206,7 @@ fn finish(
     ensures seat { OnOk result (IsSeat config _attempts (entries_of _store.now.journal) k seat.new) }
     ensures script { seat.new.client.script ≡ seat.old.client.script }
     ensures op { OnOk result (seat.new.client.op ≡ seat.old.client.op + 1) }
+    ensures learned { OnOk result (HasLearned config k seat.old seat.new server front task) }
 {
     let outcome = outcome_of(alloc, &task)?;
     let_go(task);
@@ -241,6 +247,7 @@ fn settle(
     ensures seat { OnOk result (IsSeat config attempts (entries_of store.now.journal) k seat.new) }
     ensures script { seat.new.client.script ≡ seat.old.client.script }
     ensures op { OnOk result (IsOneMore seat.old.client.op seat.new.client.op) }
+    ensures comes { OnOk result (Comes config k seat.old seat.new work (is_done work.ask)) }
 {
     if !is_done(&work.ask) {
         set_work(seat, work);
@@ -271,7 +278,9 @@ fn advance(
     requires working { IsWork store.old.config _attempts (entries_of store.old.journal) _client.now.script _client.now.op _receipts.now work }
     requires covered { AreCovered store.old.config (entries_of store.old.journal) }
     ensures ready { IfOk result (λ new. IsReady store.old.config _attempts (entries_of store.new.journal) _k _client.now.script _client.now.op _receipts.now new.front new.task new.ask) }
+    ensures exchanged { IfOk result (λ new. IsExchange store.old.config (entries_of store.old.journal) (entries_of store.new.journal) work.task work.ask new.task new.ask) }
     ensures server { IfOk result (λ new. new.server ≡ work.server) }
+    ensures front { IfOk result (λ new. new.front ≡ work.front) }
     ensures past { OnOk result (IsPast store.old.config _attempts (entries_of store.new.journal) _k _client.now.script _client.now.op _receipts.now) }
     ensures covered { OnOk result (AreCovered store.old.config (entries_of store.new.journal)) }
     ensures step { IsGrowth store.old store.new _client.now.script.id }
@@ -293,7 +302,7 @@ fn advance(
     })
 }
 
-/// One ask of the client's request, where one is under way.
+/// One ask of the client's request, which is under way.
 pub(crate) fn go_on(
     alloc: Global,
     store: &mut KvState<MetaEntry>,
@@ -306,14 +315,16 @@ pub(crate) fn go_on(
     requires begun { IsOpen store.old }
     requires seat { IsSeat config attempts (entries_of store.old.journal) k seat.old }
     requires covered { AreCovered config (entries_of store.old.journal) }
+    requires there { (work : WorkView) × (seat.old.work ≡ Some work) }
     ensures seat { OnOk result (IsSeat config attempts (entries_of store.new.journal) k seat.new) }
     ensures step { IsGrowth store.old store.new seat.old.client.script.id }
     ensures covered { OnOk result (AreCovered config (entries_of store.new.journal)) }
     ensures script { seat.new.client.script ≡ seat.old.client.script }
     ensures op { OnOk result (IsOneMore seat.old.client.op seat.new.client.op) }
+    ensures exchanged { OnOk result (HasExchanged config k (entries_of store.old.journal) (entries_of store.new.journal) seat.old seat.new) }
 {
     let Some(work) = take_work(seat) else {
-        return Ok(());
+        unreachable!()
     };
     let work = advance(
         alloc,
@@ -342,6 +353,7 @@ pub(crate) fn event(
     requires to { attempts ≤ 64 }
     requires distinct { AreDistinct (scripts_of seats.old.items) }
     requires within { k < length seats.old.items }
+    requires left { (seat : SeatView) → slice_get seats.old.items k ≡ Some seat → has_ended seat.client ≡ false }
     requires seated { AreSeated config attempts (entries_of store.old.journal) seats.old.items }
     ensures seated { OnOk result (AreSeated config attempts (entries_of store.new.journal) seats.new.items) }
     ensures scripts { scripts_of seats.new.items ≡ scripts_of seats.old.items }
@@ -349,6 +361,8 @@ pub(crate) fn event(
     ensures begun { IsOpen store.new }
     ensures step { (seat : SeatView) → slice_get seats.old.items k ≡ Some seat → IsGrowth store.old store.new seat.client.script.id }
     ensures goes { OnOk result (GoesOn seats.old.items seats.new.items k) }
+    ensures event { (before after : SeatView) → slice_get seats.old.items k ≡ Some before → slice_get seats.new.items k ≡ Some after
+        → OnOk result (IsEvent config attempts k (entries_of store.old.journal) (entries_of store.new.journal) before after) }
 {
     sound_store(store);
     let seat = &mut seats[usize::from(k)];

@@ -1,9 +1,12 @@
-use Rattle.std.proofs.Common.{◌∙◌, subst}
+use Rattle.std.proofs.Common.{◌∙◌, length, refl, subst, sym}
+use Rattle.request_run.proofs.Rows.{length_entries}
+use Rattle.world_core.specs.Events.{IsAtWork, IsEvent}
+use Rattle.world_core.proofs.EventLaws.{event_there, work_there}
 use Rattle.world_core.specs.Left.{IsOneMore}
 use Rattle.world_core.proofs.Ahead.{goes_there}
 use Rattle.request_run.specs.Entries.{entries_of}
 use Rattle.world_core.proofs.Calls.{config_grown, open_grown}
-use Rattle.world_core.proofs.Seating.{growth_there, scripts_there, seat_kept, seated_there}
+use Rattle.world_core.proofs.Seating.{growth_there, scripts_there, seat_kept, seat_there, seated_there}
 use Rattle.world_core.proofs.turns.event.Goals as goal
 
 pub start-requires-clause-seat : goal.start-requires-clause-seat
@@ -54,3 +57,19 @@ pub returns-clause-goes : goal.returns-clause-goes
 returns-clause-goes c =
     goes_there c.args.seats.now.items c.from.result c.args.k c.index_mut-seat.result.now c.go_on.new.seat c.from.ensures c.requires.within c.index_mut-seat.ensures.value
     (subst (λ n. IsOneMore n c.go_on.new.seat.client.op) c.in_ok-start.ensures.op c.in_ok-go_on.ensures.op)
+
+pub returns-clause-event : goal.returns-clause-event
+returns-clause-event c =
+    event_there (λ before after. IsEvent c.args.config c.args.attempts c.args.k (entries_of c.args.store.now.journal) (entries_of c.go_on.new.store.journal) before after) c.args.seats.now.items c.from.result c.args.k c.index_mut-seat.result.now c.go_on.new.seat
+    c.from.ensures c.requires.within c.index_mut-seat.ensures.value
+    (record {
+      sent = c.start.new.seat;
+      at_work = subst (λ n. IsAtWork c.args.config c.args.attempts n c.index_mut-seat.result.now c.start.new.seat c.index_mut-seat.result.now.work) (sym (length_entries c.args.store.now.journal)) c.in_ok-start.ensures.at_work;
+      exchanged = c.in_ok-go_on.ensures.exchanged;
+    })
+
+pub start-requires-clause-left : goal.start-requires-clause-left
+start-requires-clause-left c = c.requires.left c.index_mut-seat.result.now (seat_there c.args.seats.now.items c.from.result c.args.k c.index_mut-seat.result.now c.from.ensures c.requires.within c.index_mut-seat.ensures.value)
+
+pub go_on-requires-clause-there : goal.go_on-requires-clause-there
+go_on-requires-clause-there c = work_there c.args.config c.args.attempts (length c.args.store.now.journal) c.index_mut-seat.result.now c.start.new.seat c.index_mut-seat.result.now.work refl c.in_ok-start.ensures.at_work

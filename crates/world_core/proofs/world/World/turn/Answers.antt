@@ -1,7 +1,10 @@
-use Rattle.std.proofs.Common.{◌<◌, length, sym, ap, subst, ◌∙◌}
+use Rattle.std.proofs.Common.{◌≡◌, ◌<◌, Some, length, sym, ap, subst, ◌∙◌}
 use Rattle.std.specs.Prelude.{slice_get}
 use Rattle.world_core.specs.Objects.{no_histories}
+use Rattle.request_run.specs.Entries.{entries_of}
+use Rattle.world_core.specs.Events.{IsEvent}
 use Rattle.world_core.specs.Left.{GoesOn}
+use Rattle.world_core.specs.declared.seats.Seat.{Seat}
 use Rattle.world_core.specs.World.{WorldView}
 use Rattle.world_core.proofs.Closing.{grown_step, not_ended, world_went}
 use Rattle.world_core.proofs.world.World.turn.Goals as goal
@@ -23,6 +26,11 @@ returns-clause-turn c = (
       not_ended c.self.inside.seats.items c.from.result c.args.client c.index.result.now c.has_ended.result c.from.ensures (subst (λ (w : WorldView). c.args.client < length w.seats) (sym c.self.view_is) c.requires) c.index.ensures
       c.has_ended.ensures c.if-has_ended.false seat (ap (λ (w : WorldView). slice_get w.seats c.args.client) c.self.view_is ∙ at),
   subst (λ (w : WorldView). GoesOn w.seats c.event.new.seats.items c.args.client) c.self.view_is c.in_ok-event.ensures.goes,
+  subst
+      (λ (w : WorldView).
+      (before after : Seat) → slice_get w.seats c.args.client ≡ Some before → slice_get c.event.new.seats.items c.args.client ≡ Some after
+      → IsEvent w.config w.attempts c.args.client (entries_of w.objects.store.journal) (entries_of c.event.new.store.journal) before after)
+      c.self.view_is c.in_ok-event.ensures.event,
 )
 
 pub returns-clause-step : goal.returns-clause-step
