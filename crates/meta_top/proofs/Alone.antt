@@ -37,6 +37,8 @@ use Rattle.run_record.specs.ReplyText.{text_of}
 use Rattle.run_record.specs.Right.{AreSections, IsNoRefusal, IsRight, IsRightEntry}
 use Rattle.run_record.specs.declared.run.Listed.{Listed}
 use Rattle.run_record.specs.declared.run.Record.{Record}
+use Rattle.world_core.specs.Order.{IsKept, IsOrdered}
+use Rattle.world_core.specs.World.{IsOpening, WorldView}
 use Rattle.world_core.proofs.Growth.{EntryAt_within}
 use Rattle.meta_top.specs.Alone.{commits, listed, receipt_of, receipts_from, receipts_of, version_after}
 use Rattle.meta_top.specs.Top.{IsRunOf}
@@ -249,8 +251,8 @@ alone plan run script some short one right =
     whole ∙ of_section plan.config plan.attempts script run.entries sections.0 some short right.legal.replies right.entries sections.3 named
 
 -- the text of a record that is right for the plan
-pub run_of : (plan : Plan) (run : Record) (text : List ℕ) → IsPlan plan → IsRight plan run → text ≡ replies_text run → IsRunOf plan text
-run_of plan run text is right written = record { run = run; right = right; alone = single; written = written }
+pub run_of : (plan : Plan) (run : Record) (text : List ℕ) (first : WorldView) → IsPlan plan → IsRight plan run → IsOpening plan first → ((last : WorldView) × IsOrdered first last × IsKept last run) → text ≡ replies_text run → IsRunOf plan text
+run_of plan run text first is right opening ordered written = record { run = run; right = right; first = first; last = ordered.0; opening = opening; order = ordered.1; kept = ordered.2; alone = single; written = written }
   where
     single : (script : Script) → plan.clients ≡ script ∷ [] → run.receipts ≡ receipts_of plan.config script
     single script one =

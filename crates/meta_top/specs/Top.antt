@@ -11,6 +11,8 @@ use Rattle.run_record.specs.Replies.{replies_text}
 use Rattle.run_record.specs.Right.{IsRight}
 use Rattle.run_record.specs.Words.{line, setting}
 use Rattle.run_record.specs.declared.run.Record.{Record}
+use Rattle.world_core.specs.Order.{IsKept, IsOrdered}
+use Rattle.world_core.specs.World.{IsOpening, WorldView}
 use Rattle.scenario.specs.declared.broken.Broken.{Broken}
 use Rattle.scenario.specs.Scenario.{scenario_of}
 use Rattle.meta_top.specs.Alone.{receipts_of}
@@ -32,6 +34,12 @@ bad_line broken = line (codes "bad" ∷ setting (codes "rule=") broken.rule ∷ 
 pub record IsRunOf (plan : Plan) (text : List ℕ) : Type 0 where
   pub run : Record
   pub right : IsRight plan run
+  -- turn by turn in the order of the schedule and then in rounds, from a world in which nothing has happened
+  pub first : WorldView
+  pub last : WorldView
+  pub opening : IsOpening plan first
+  pub order : IsOrdered first last
+  pub kept : IsKept last run
   -- with a single client nothing is left open: its calls are answered one after another,
   -- each as the plain tree that the calls before it led to answers it, and no call meets a conflict
   pub alone : (script : Script) → plan.clients ≡ script ∷ [] → run.receipts ≡ receipts_of plan.config script

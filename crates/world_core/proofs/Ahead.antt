@@ -17,8 +17,8 @@ use Rattle.world_core.specs.declared.seats.Work.{Work}
 use Rattle.client_core.specs.declared.plan.Plan.{Plan}
 use Rattle.client_core.specs.declared.plan.Script.{Script}
 use Rattle.world_core.specs.Kept.{IsSeat, IsWorking}
-use Rattle.world_core.specs.Left.{AreAhead, EndsOne, GoesOn, IsAhead, IsOneMore, KeepsOthers, has_left}
-use Rattle.world_core.specs.World.{AllSeats, HaveEnded, IsOpTurn, IsTurn, WorldView, plan_of, scripts_of}
+use Rattle.world_core.specs.Left.{AreAhead, EndsOne, GoesOn, IsAhead, IsOneMore, KeepsOthers, Stays, has_left}
+use Rattle.world_core.specs.World.{AllSeats, AreTurns, HaveEnded, IsOpTurn, IsOperation, IsTurn, WorldView, plan_of, scripts_of}
 use Rattle.world_core.specs.declared.world.Turn.{Turn}
 use Rattle.world_core.specs.declared.world.Turn.TheVariants as turns
 use Rattle.world_core.specs.declared.seats.Seat.{Seat}
@@ -50,11 +50,6 @@ goes_there seats i k x y same l is more = subst (λ n. GoesOn seats (set seats n
         (subst (λ (a : Seat). IsOneMore x.client.op a.client.op) new more)
 
 -- ---- turns of one operation
-
--- no operation has ended
-pub record Stays (old new : List Seat) (k : ℕ) : Type 0 where
-  pub others : KeepsOthers old new k
-  pub own : (before after : Seat) → slice_get old k ≡ Some before → slice_get new k ≡ Some after → after.client.op ≡ before.client.op
 
 pub stays : (seats : List Seat) (k : ℕ) → Stays seats seats k
 stays seats k = record {
@@ -95,6 +90,20 @@ module _ (old new : List Seat) (k : ℕ) (x y : Seat) (m n : ℕ) (at_x : slice_
 
   pub ops_apart : n ≢ m → (before after : Seat) → slice_get old k ≡ Some before → slice_get new k ≡ Some after → after.client.op ≢ before.client.op
   ops_apart apart before after at_before at_after e = apart (is_n ∙ (op_of new y after at_y at_after ∙ (e ∙ (sym (op_of old x before at_x at_before) ∙ sym is_m))))
+
+-- one turn more, where it went on
+pub turns_on : (old mid new : WorldView) (k : ℕ) (turn : Turn) → ((count : ℕ) × AreTurns old mid k count) → IsTurn mid new k turn → (count : ℕ) × AreTurns old new k count
+turns_on old mid new k turns.Idle so_far h = (so_far.0, subst (λ (w : WorldView). AreTurns old w k so_far.0) (sym h.1) so_far.1)
+turns_on old mid new k turns.Went so_far h = (suc so_far.0, (mid, so_far.1, h))
+
+-- the last of an operation's turns
+pub operation : (old mid new : WorldView) (k : ℕ) (turn : Turn) → k < length old.seats → k < length mid.seats → Stays old.seats mid.seats k → ((count : ℕ) × AreTurns old mid k count) → IsTurn mid new k turn
+    → ((before after : Seat) → slice_get old.seats k ≡ Some before → slice_get new.seats k ≡ Some after → after.client.op ≢ before.client.op) → IsOperation old new k
+operation old mid new k turns.Went from within none so_far h more = record { count = so_far.0; mid = mid; before = so_far.1; none = none; last = h }
+operation old mid new k turns.Idle from within none so_far h more =
+    let here = there mid.seats k within in
+    let first = there old.seats k from in
+    absurd (more first.0 here.0 first.1 (ap (λ (w : WorldView). slice_get w.seats k) h.1 ∙ here.1) (none.own first.0 here.0 first.1 here.1))
 
 -- ---- rounds
 

@@ -6,6 +6,7 @@ pub mod Ends
 pub mod EventLaws
 pub mod Growth
 pub mod Named
+pub mod OrderLaws
 pub mod Righting
 pub mod Seating
 pub mod Steps

@@ -21,6 +21,11 @@ pub record GoesOn (old new : List Seat) (client : ℕ) : Type 0 where
   pub others : KeepsOthers old new client
   pub own : (before after : Seat) → slice_get old client ≡ Some before → slice_get new client ≡ Some after → IsOneMore before.client.op after.client.op
 
+-- no operation of the client has ended
+pub record Stays (old new : List Seat) (client : ℕ) : Type 0 where
+  pub others : KeepsOthers old new client
+  pub own : (before after : Seat) → slice_get old client ≡ Some before → slice_get new client ≡ Some after → after.client.op ≡ before.client.op
+
 -- a whole operation of a client: one more has ended, and each other client is as it was
 pub record EndsOne (old new : List Seat) (client : ℕ) : Type 0 where
   pub others : KeepsOthers old new client

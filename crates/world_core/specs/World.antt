@@ -1,5 +1,5 @@
 -- Clients and servers over one store.
-use Rattle.std.specs.Prelude.{◌≡◌, ◌≤◌, ℕ, List, [], ◌∷◌, ◌++◌, Bool, true, false, length, map, slice_get, Some, None}
+use Rattle.std.specs.Prelude.{◌≡◌, ◌≤◌, ℕ, zero, suc, List, [], ◌∷◌, ◌++◌, Bool, true, false, length, map, slice_get, Some, None}
 use Rattle.fs_base.specs.Config.{Settings}
 use Rattle.txn_task.specs.declared.messages.Entry.{Entry}
 use Rattle.client_core.specs.Client.{has_ended, new_client}
@@ -14,7 +14,7 @@ use Rattle.request_run.specs.Served.{AreCovered}
 use Rattle.world_core.specs.Kept.{IsSeat}
 use Rattle.request_run.specs.Entries.{entries_of}
 use Rattle.world_core.specs.Events.{IsEvent}
-use Rattle.world_core.specs.Left.{EndsOne, GoesOn}
+use Rattle.world_core.specs.Left.{EndsOne, GoesOn, Stays}
 use Rattle.world_core.specs.Objects.{Objects}
 use Rattle.request_run.specs.Sound.{IsOpen}
 use Rattle.world_core.specs.declared.seats.Seat.{Seat}
@@ -77,6 +77,12 @@ new_seat C script = record { client = new_client C script; work = None; receipts
 abbrev pub seats_of : Settings → List Script → List Seat
 seats_of C scripts = map (λ script. new_seat C script) scripts
 
+-- a world of this plan in which nothing has happened yet
+pub record IsOpening (plan : Plan) (w : WorldView) : Type 0 where
+  pub plan_is : plan_of w ≡ plan
+  pub seats : w.seats ≡ seats_of plan.config plan.clients
+  pub none : w.objects.store.journal ≡ []
+
 -- ---- turns
 
 -- whether the client has nothing under way and nothing left
@@ -94,9 +100,22 @@ abbrev pub IsTurn : WorldView → WorldView → ℕ → Turn → Type 0
 IsTurn old new client turns.Idle = HasEnded old client true × (new ≡ old)
 IsTurn old new client turns.Went = HasEnded old client false × GoesOn old.seats new.seats client × HasEvent old new client
 
+-- so many turns of the client, each of which went on
+abbrev pub AreTurns : WorldView → WorldView → ℕ → ℕ → Type 0
+AreTurns old new client zero = new ≡ old
+AreTurns old new client (suc count) = (mid : WorldView) × AreTurns old mid client count × IsTurn mid new client turns.Went
+
+-- turns of the client of which the last one alone ends an operation
+pub record IsOperation (old new : WorldView) (client : ℕ) : Type 0 where
+  pub count : ℕ
+  pub mid : WorldView
+  pub before : AreTurns old mid client count
+  pub none : Stays old.seats mid.seats client
+  pub last : IsTurn mid new client turns.Went
+
 abbrev pub IsOpTurn : WorldView → WorldView → ℕ → Turn → Type 0
 IsOpTurn old new client turns.Idle = HasEnded old client true × (new ≡ old)
-IsOpTurn old new client turns.Went = HasEnded old client false × EndsOne old.seats new.seats client
+IsOpTurn old new client turns.Went = HasEnded old client false × EndsOne old.seats new.seats client × IsOperation old new client
 
 abbrev pub items_of : Schedule → List ℕ
 items_of (Items items) = items

@@ -5,7 +5,8 @@ ghost use Rattle.run_record.specs.Right.{IsRight};
 ghost use Rattle.world_core.specs.Objects.{IsStep};
 ghost use Rattle.request_run.specs.Sound.{IsOpen};
 ghost use Rattle.world_core.specs.Left.{AreAhead, EndsOne, has_left};
-ghost use Rattle.world_core.specs.World.{IsOpTurn, IsTurn, items_of, new_seat, plan_of, seats_of};
+ghost use Rattle.world_core.specs.Order.{AreItems, AreRounds, IsItem, IsKept, IsOrdered, IsRound};
+ghost use Rattle.world_core.specs.World.{IsOperation, IsOpTurn, IsTurn, WorldView, items_of, new_seat, plan_of, seats_of};
 ghost use Rattle.world_core.specs.declared.seats.Seat.{Seat as SeatView};
 
 use crate::record::record_of;
@@ -103,7 +104,8 @@ fn items_in(schedule: &Schedule) -> usize
 
 fn item_at(schedule: &Schedule, place: usize) -> u16
     requires { place < length (items_of schedule.now) }
-    ensures { (count : ℕ) → IsSchedule count schedule.now → NamesClient count result }
+    ensures value { slice_get (items_of schedule.now) place ≡ Some result }
+    ensures named { (count : ℕ) → IsSchedule count schedule.now → NamesClient count result }
 {
     match schedule {
         Schedule::Items(items) => items.as_slice()[place],
@@ -115,6 +117,7 @@ impl World {
     pub fn new(alloc: Global, plan: Plan) -> Result<World, Memory>
         requires { IsPlan plan }
         ensures plan { IfOk result (λ world. plan_of world ≡ plan) }
+        ensures seats { IfOk result (λ world. world.seats ≡ seats_of plan.config plan.clients) }
         ensures none { IfOk result (λ world. world.objects.store.journal ≡ []) }
         ensures alive { IfOk result (λ world. world.failed ≡ false) }
     {
@@ -190,7 +193,7 @@ impl World {
 
     fn end_op(&mut self, client: u16) -> Result<(), Memory>
         requires { client < length self.old.seats }
-        ensures ended { OnOk result (EndsOne self.old.seats self.new.seats client) }
+        ensures ended { OnOk result (EndsOne self.old.seats self.new.seats client × IsOperation self.old self.new client) }
         ensures plan { plan_of self.new ≡ plan_of self.old }
         ensures alive { OnOk result (self.new.failed ≡ false) }
         ensures err { OnErr result (self.new.failed ≡ true) }
@@ -210,6 +213,7 @@ impl World {
     /// One item of a schedule: a turn, or a whole operation.
     fn take_item(&mut self, item: u16) -> Result<(), Memory>
         requires { NamesClient (length self.old.seats) item }
+        ensures item { OnOk result (IsItem self.old self.new item) }
         ensures plan { plan_of self.new ≡ plan_of self.old }
     {
         if item < 100 {
@@ -221,6 +225,7 @@ impl World {
     }
 
     fn take_schedule(&mut self) -> Result<(), Memory>
+        ensures items { OnOk result (AreItems (items_of self.old.schedule) self.old self.new (length (items_of self.old.schedule))) }
         ensures plan { plan_of self.new ≡ plan_of self.old }
     {
         for place in 0..items_in(&self.schedule) {
@@ -233,6 +238,7 @@ impl World {
     /// A whole operation of each client that has one left.
     fn round(&mut self) -> Result<(), Memory>
         ensures ahead { (rounds : ℕ) → AreAhead rounds self.old.seats → OnOk result (AreAhead (rounds + 1) self.new.seats) }
+        ensures round { OnOk result (IsRound self.old self.new) }
         ensures plan { plan_of self.new ≡ plan_of self.old }
         ensures alive { self.old.failed ≡ false → OnOk result (self.new.failed ≡ false) }
     {
@@ -251,6 +257,7 @@ impl World {
     /// Rounds until no client has anything left.
     fn rounds(&mut self) -> Result<(), Memory>
         ensures left { OnOk result (has_left self.new.seats ≡ false) }
+        ensures rounds { OnOk result ((count : ℕ) × AreRounds self.old self.new count) }
         ensures plan { plan_of self.new ≡ plan_of self.old }
     {
         if self.failed {
@@ -278,7 +285,8 @@ impl World {
 
     /// The plan's schedule, and then rounds until no client has anything left: in each, every client that has does one whole operation.
     pub fn run(mut self) -> Result<Record, Memory>
-        ensures { IfOk result (λ run. IsRight (plan_of self) run) }
+        ensures right { IfOk result (λ run. IsRight (plan_of self) run) }
+        ensures order { IfOk result (λ run. (last : WorldView) × IsOrdered self last × IsKept last run) }
     {
         self.take_schedule()?;
         self.rounds()?;
@@ -288,7 +296,8 @@ impl World {
     /// What is kept of a run that has ended.
     fn into_record(self) -> Result<Record, Memory>
         requires { has_left self.seats ≡ false }
-        ensures { IfOk result (λ run. IsRight (plan_of self) run) }
+        ensures right { IfOk result (λ run. IsRight (plan_of self) run) }
+        ensures kept { IfOk result (IsKept self) }
     {
         if self.failed {
             return Err(Memory);

@@ -8,5 +8,7 @@ use Rattle.meta_top.proofs.top.run_text.Goals as goal
 pub returns : goal.returns
 returns c =
     IfOk-weaker c.write_replies.result _ _
-    (λ text written. run_of c.args.plan c.in_ok-run.run' text.items c.requires (subst (λ (plan : Plan). IsRight plan c.in_ok-run.run') c.in_ok-world.ensures.plan c.in_ok-run.ensures) written)
+    (λ text written.
+    run_of c.args.plan c.in_ok-run.run' text.items c.in_ok-world.world c.requires (subst (λ (plan : Plan). IsRight plan c.in_ok-run.run') c.in_ok-world.ensures.plan c.in_ok-run.ensures.right)
+    (record { plan_is = c.in_ok-world.ensures.plan; seats = c.in_ok-world.ensures.seats; none = c.in_ok-world.ensures.none }) c.in_ok-run.ensures.order written)
     c.write_replies.ensures

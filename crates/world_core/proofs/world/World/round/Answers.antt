@@ -1,7 +1,9 @@
-use Rattle.std.proofs.Common.{◌≡◌, ◌<◌, ◌≤◌, ◌∙◌, length, ap, rules}
+use Rattle.std.proofs.Common.{◌≡◌, ◌<◌, ◌≤◌, ◌∙◌, ℕ, length, ap, rules, subst}
+use Rattle.world_core.specs.Order.{IsRoundTo}
 use Rattle.world_core.specs.World.{WorldView}
 use Rattle.world_core.proofs.Ahead.{ahead_more, op_ahead}
 use Rattle.world_core.proofs.Closing.{same_seats}
+use Rattle.world_core.proofs.OrderLaws.{round_on}
 use Rattle.world_core.proofs.world.World.round.Goals as goal
 
 pub op-requires : goal.op-requires
@@ -18,6 +20,7 @@ loop-client-preserved c =
       c.in_ok-op.ensures.plan ∙ c.loop-client.invariant.0,
       (λ before. c.in_ok-op.ensures.alive),
       (λ rounds h. op_ahead rounds c.loop-client.client c.loop-client.self c.op.new.self c.in_ok-op.field-0 within c.in_ok-op.ensures.plan c.in_ok-op.ensures.turn (c.loop-client.invariant.2 rounds h)),
+      round_on c.args.self.now c.loop-client.self c.op.new.self c.loop-client.client c.in_ok-op.field-0 c.loop-client.invariant.3 c.in_ok-op.ensures.turn,
     )
 
 pub returns-clause-ahead : goal.returns-clause-ahead
@@ -26,3 +29,9 @@ returns-clause-ahead c =
     let view : length c.self.inside.seats.items ≡ length c.args.self.now.seats = ap (λ (w : WorldView). length w.seats) c.self.view_is in
     let all : length c.loop-client.self.seats ≤ c.loop-client.client = search (rules, kept, view) in
     λ rounds h. ahead_more rounds c.loop-client.client c.loop-client.self.seats all (c.loop-client.invariant.2 rounds h)
+
+pub returns-clause-round : goal.returns-clause-round
+returns-clause-round c =
+    let view : length c.self.inside.seats.items ≡ length c.args.self.now.seats = ap (λ (w : WorldView). length w.seats) c.self.view_is in
+    let end : c.loop-client.client ≡ length c.args.self.now.seats = search (rules, view) in
+    subst (λ (n : ℕ). IsRoundTo c.args.self.now c.loop-client.self n) end c.loop-client.invariant.3
