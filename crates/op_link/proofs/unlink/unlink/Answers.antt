@@ -1,0 +1,13 @@
+use Rattle.op_link.proofs.LeaveLaws.{asks_entry, at_dir, no_entry}
+use Rattle.op_link.proofs.unlink.unlink.Goals as goal
+
+pub returns-in-Ask : goal.returns-in-Ask
+returns-in-Ask c = asks_entry c.args.stamp c.args.dir c.args.name.now c.args.txn.now c.requires.writes c.in-Ask.key (rw c.in-Ask.is at c.in_ok-key.ensures)
+
+pub returns-in-Absent : goal.returns-in-Absent
+returns-in-Absent c = let want = rw c.in-Absent.is at c.in_ok-key.ensures in no_entry c.args.stamp c.args.dir c.args.name.now c.args.txn.now c.requires.writes want.0 want.1
+
+pub returns-in-Dir : goal.returns-in-Dir
+returns-in-Dir c =
+    let want = rw c.in-There.is at c.in_ok-key.ensures in
+    at_dir c.args.stamp c.args.dir c.args.name.now c.args.txn.now c.requires.writes c.in-There.entry (record { seen = want.0; there = want.1 }) c.in-Dir.is
