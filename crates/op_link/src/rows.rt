@@ -47,11 +47,12 @@ pub(crate) fn put_joined(
     row: &InodeRow,
 ) -> Result<(), Memory>
     requires writes { txn.old.writes ≡ [] }
-    ensures puts { OnOk result (txn.new ≡ record txn.old { writes = put_writes (join_puts dir name.now id row.now) }) }
+    ensures { OnOk result (txn.new ≡ record txn.old { writes = put_writes (join_puts dir name.now id row.now) }) }
 {
     let kind = kind_of(&row.part);
     put_inode(alloc, txn, id, row)?;
-    put_entry(alloc, txn, dir, name, DentRow { inode: id, kind })
+    put_entry(alloc, txn, dir, name, DentRow { inode: id, kind })?;
+    Ok(())
 }
 
 /// Takes an entry away, and puts the row of the node that it led to.
@@ -64,10 +65,11 @@ pub(crate) fn put_left(
     row: &InodeRow,
 ) -> Result<(), Memory>
     requires writes { txn.old.writes ≡ [] }
-    ensures puts { OnOk result (txn.new ≡ record txn.old { writes = put_writes (left_puts dir name.now id row.now) }) }
+    ensures { OnOk result (txn.new ≡ record txn.old { writes = put_writes (left_puts dir name.now id row.now) }) }
 {
     remove_entry(alloc, txn, dir, name)?;
-    put_inode(alloc, txn, id, row)
+    put_inode(alloc, txn, id, row)?;
+    Ok(())
 }
 
 /// The same, and the file waits to be deleted.
@@ -80,10 +82,11 @@ pub(crate) fn put_waiting(
     row: &InodeRow,
 ) -> Result<(), Memory>
     requires writes { txn.old.writes ≡ [] }
-    ensures puts { OnOk result (txn.new ≡ record txn.old { writes = put_writes (waiting_puts dir name.now id row.now) }) }
+    ensures { OnOk result (txn.new ≡ record txn.old { writes = put_writes (waiting_puts dir name.now id row.now) }) }
 {
     put_left(alloc, txn, dir, name, id, row)?;
-    put_doomed(alloc, txn, id, GcRow::Waiting)
+    put_doomed(alloc, txn, id, GcRow::Waiting)?;
+    Ok(())
 }
 
 /// Takes a node away with its entry.
@@ -95,8 +98,9 @@ pub(crate) fn put_gone(
     id: InodeId,
 ) -> Result<(), Memory>
     requires writes { txn.old.writes ≡ [] }
-    ensures puts { OnOk result (txn.new ≡ record txn.old { writes = put_writes (gone_puts dir name.now id) }) }
+    ensures { OnOk result (txn.new ≡ record txn.old { writes = put_writes (gone_puts dir name.now id) }) }
 {
     remove_entry(alloc, txn, dir, name)?;
-    remove_inode(alloc, txn, id)
+    remove_inode(alloc, txn, id)?;
+    Ok(())
 }

@@ -1,8 +1,8 @@
-ghost use Rattle.std.specs.Prelude.{◌≡◌, IfOk, OnErr};
+ghost use Rattle.std.specs.Prelude.{◌≡◌, IfOk, IsTrue, OnErr};
+ghost use Rattle.row_records.specs.Calls.{is_call};
 ghost use Rattle.tree_model.specs.Calls.{effect};
 ghost use Rattle.tree_model.specs.Tree.{Tree};
 ghost use Rattle.path_walk.specs.Footprint.{call_areas};
-ghost use Rattle.path_walk.specs.Requests.{IsRequest};
 ghost use Rattle.op_link.specs.Beginning.{HasPlace, IsCallAt, end_of, fault_of};
 ghost use Rattle.op_link.specs.Link.{IsLinkCall, IsReady, areas_of, effect_of};
 
@@ -62,7 +62,7 @@ impl LinkTask {
     /// The task of a call that adds an entry or takes one away. Nothing is asked for yet; a fault in the call's
     /// words is known.
     pub fn new(alloc: Global, request: &Request, config: &Config) -> Result<LinkTask, Memory>
-        requires valid { IsRequest config.now request.now }
+        requires numbers { IsTrue (is_call (request.now.stamp, request.now.call)) }
         requires call { IsLinkCall request.now.call }
         ensures config { IfOk result (λ task. task.config ≡ config.now) }
         ensures effect { IfOk result (λ task. (T : Tree) → effect_of task T ≡ effect config.now T request.now) }
@@ -88,7 +88,7 @@ impl LinkTask {
         place: &Place,
         call: LinkCall,
     ) -> Result<LinkTask, Memory>
-        requires valid { IsRequest config.now request.now }
+        requires numbers { IsTrue (is_call (request.now.stamp, request.now.call)) }
         requires call { IsCallAt request.now.call call place.now }
         ensures config { IfOk result (λ task. task.config ≡ config.now) }
         ensures effect { IfOk result (λ task. (T : Tree) → effect_of task T ≡ effect config.now T request.now) }

@@ -14,4 +14,4 @@ returns-clause-areas c =
     begins_areas c.args.config.now task c.args.request.now c.args.place.now refl c.requires.call (rw c.end_of.ensures at rw c.in_ok-fault.ensures.fault at c.in_ok-stage.ensures.trip)
 
 pub returns-clause-ready : goal.returns-clause-ready
-returns-clause-ready c = stamp_fits c.args.request.now.stamp c.args.request.now.call c.requires.valid.call
+returns-clause-ready c = stamp_fits c.args.request.now.stamp c.args.request.now.call c.requires.numbers
