@@ -4,7 +4,7 @@ use Rattle.std.specs.Prelude.{IsTrue, Option, Some, None}
 use Rattle.std.specs.Option.{option_map}
 use Rattle.std.specs.FinMap.{get}
 use Rattle.std.proofs.lemmas.Bool.{and_parts}
-use Rattle.byte_fields.specs.Fields.{mode, number_4, time, within}
+use Rattle.byte_fields.specs.Fields.{mode, number_1, number_4, time}
 use Rattle.byte_fields.proofs.InRange.{at_most, both, fits_4, within_fits}
 use Rattle.conflict_sets.specs.declared.sets.ReadSet.{ReadSet}
 use Rattle.fs_base.specs.Config.{Settings}
@@ -91,7 +91,7 @@ recounted_fits stamp links row time_ok few fits =
     fits
 
 waiting_fits : IsTrue (is_gc Waiting)
-unfolding gc by_phase
+unfolding gc by_phase number_1
 waiting_fits = refl
 
 -- ---- each changes its row

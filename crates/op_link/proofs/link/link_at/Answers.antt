@@ -9,3 +9,6 @@ returns-in-NoName c = rw c.in-NoName.is (from_no_name c.args.txn.now c.requires.
 
 pub returns-in-Stopped : goal.returns-in-Stopped
 returns-in-Stopped c = rw c.in-Stopped.is (from_stopped c.args.txn.now c.requires.writes c.args.to.now c.args.stamp c.in-Stopped.code)
+
+pub link_node-requires-clause-source : goal.link_node-requires-clause-source
+link_node-requires-clause-source c = rw c.in-At.is at c.requires.source

@@ -16,3 +16,6 @@ pub returns-in-Link : goal.returns-in-Link
 returns-in-Link c = λ stamp.
     let want = rw c.in-There.is at c.in_ok-key.ensures in
     at_other stamp c.args.dir c.args.name.now c.args.txn.now c.requires c.in-There.entry (record { seen = want.0; there = want.1 }) (λ d. let clash = c.in-Link.is in cc)
+
+pub remove_dir-requires-clause-entry : goal.remove_dir-requires-clause-entry
+remove_dir-requires-clause-entry c = let want = rw c.in-There.is at c.in_ok-key.ensures in record { seen = want.0; there = want.1 }
