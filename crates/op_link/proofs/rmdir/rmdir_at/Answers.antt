@@ -2,10 +2,10 @@ use Rattle.op_link.proofs.RemoveLaws.{at_node, no_name, stopped}
 use Rattle.op_link.proofs.rmdir.rmdir_at.Goals as goal
 
 pub returns-in-At : goal.returns-in-At
-returns-in-At c = λ stamp. rw c.in-At.is (at_node c.args.txn.now c.requires stamp c.in-At.field-0 c.in-At.field-1)
+returns-in-At c = λ stamp. rw c.in-At.is (at_node c.args.txn.now c.requires.writes stamp c.in-At.field-0 c.in-At.field-1)
 
 pub returns-in-NoName : goal.returns-in-NoName
-returns-in-NoName c = λ stamp. rw c.in-NoName.is (no_name c.args.txn.now c.requires stamp c.in-NoName.field-0)
+returns-in-NoName c = λ stamp. rw c.in-NoName.is (no_name c.args.txn.now c.requires.writes stamp c.in-NoName.field-0)
 
 pub returns-in-Stopped : goal.returns-in-Stopped
-returns-in-Stopped c = λ stamp. rw c.in-Stopped.is (stopped c.args.txn.now c.requires stamp c.in-Stopped.code)
+returns-in-Stopped c = λ stamp. rw c.in-Stopped.is (stopped c.args.txn.now c.requires.writes stamp c.in-Stopped.code)
