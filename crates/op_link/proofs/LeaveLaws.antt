@@ -22,6 +22,7 @@ use Rattle.row_records.specs.declared.rows.GcRow.TheVariants.{Waiting}
 use Rattle.row_tree.specs.Steps.{recounted}
 use Rattle.row_tree.specs.TreeOf.{tree_of, node_part}
 use Rattle.row_tree.specs.TypedRows.{TypedRows, kind_of}
+use Rattle.row_tree.specs.Values.{Value}
 use Rattle.row_tree.specs.WellFormed.{IsWellFormed}
 use Rattle.row_tree.proofs.Detaching.{unlink_absent, unlink_dir, unlink_goes, unlink_stays, unlink_waits}
 use Rattle.row_tree.proofs.Telling.{node_is}

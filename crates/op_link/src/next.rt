@@ -64,7 +64,10 @@ impl LinkTask {
         match &self.call {
             LinkCall::Link(to) => link_at(alloc, txn, self.stamp, to, walked),
             LinkCall::Unlink => unlink_at(alloc, txn, self.stamp, walked),
-            LinkCall::Rmdir => rmdir_at(alloc, txn, walked),
+            LinkCall::Rmdir => {
+                let step = rmdir_at(alloc, txn, walked)?;
+                Ok(step)
+            }
         }
     }
 }

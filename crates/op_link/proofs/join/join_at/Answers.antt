@@ -9,3 +9,6 @@ returns-in-NoName c = rw c.in-NoName.is (to_no_name c.args.txn.now c.requires.wr
 
 pub returns-in-Stopped : goal.returns-in-Stopped
 returns-in-Stopped c = rw c.in-Stopped.is (to_stopped c.args.txn.now c.requires.writes c.args.id c.args.stamp c.in-Stopped.code)
+
+pub returns-in_ok-step-in-AtParent : goal.returns-in_ok-step-in-AtParent
+returns-in_ok-step-in-AtParent c = rw c.in-AtParent.is c.in_ok-step-in-AtParent.ensures

@@ -11,3 +11,9 @@ walk_to-requires-clause-source c = c.requires.source c.args.id c.args.kind refl 
 
 pub walk_to-requires-in-Link-clause-source : goal.walk_to-requires-in-Link-clause-source
 walk_to-requires-in-Link-clause-source c = c.requires.source c.args.id c.args.kind refl (λ d. let kept : c.args.kind ≡ kinds.Link = c.in-Link.is in cc)
+
+pub returns-in-File : goal.returns-in-File
+returns-in-File c = rw c.in-File.is c.walk_to.ensures
+
+pub returns-in-Link : goal.returns-in-Link
+returns-in-Link c = rw c.in-Link.is c.walk_to-in-Link.ensures

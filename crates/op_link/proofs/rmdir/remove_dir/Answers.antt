@@ -9,8 +9,8 @@ returns-in-Used c = λ stamp.
     let want = rw c.in-Used.is at c.in_ok-ask.ensures in
     at_used stamp c.args.dir c.args.name.now c.args.txn.now c.requires.writes c.args.entry c.requires.entry c.requires.is_dir want.0 want.1
 
-pub returns-in-Empty : goal.returns-in-Empty
-returns-in-Empty c = λ stamp.
+pub returns-in_ok-put_gone-in-Empty : goal.returns-in_ok-put_gone-in-Empty
+returns-in_ok-put_gone-in-Empty c = λ stamp.
     let want = rw c.in-Empty.is at c.in_ok-ask.ensures in
     gone_done stamp c.args.dir c.args.name.now c.args.txn.now c.requires.writes c.args.entry c.requires.entry c.requires.is_dir want.0 want.1
-    c.in_range.ensures.id c.in_range.ensures.dir c.in_range.ensures.name c.put_gone.new.txn c.new.result c.in_ok-put_gone.ensures c.new.ensures
+    c.in_range.ensures.id c.in_range.ensures.dir c.in_range.ensures.name c.put_gone.new.txn c.new.result c.in_ok-put_gone-in-Empty.ensures c.new.ensures

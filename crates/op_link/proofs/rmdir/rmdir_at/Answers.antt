@@ -9,3 +9,6 @@ returns-in-NoName c = λ stamp. rw c.in-NoName.is (no_name c.args.txn.now c.requ
 
 pub returns-in-Stopped : goal.returns-in-Stopped
 returns-in-Stopped c = λ stamp. rw c.in-Stopped.is (stopped c.args.txn.now c.requires.writes stamp c.in-Stopped.code)
+
+pub returns-in_ok-step-in-AtParent : goal.returns-in_ok-step-in-AtParent
+returns-in_ok-step-in-AtParent c = λ stamp. rw c.in-AtParent.is (c.in_ok-step-in-AtParent.ensures stamp)

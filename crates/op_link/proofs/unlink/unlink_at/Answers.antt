@@ -9,3 +9,6 @@ returns-in-NoName c = rw c.in-NoName.is (no_name c.args.txn.now c.requires.write
 
 pub returns-in-Stopped : goal.returns-in-Stopped
 returns-in-Stopped c = rw c.in-Stopped.is (stopped c.args.txn.now c.requires.writes c.args.stamp c.in-Stopped.code)
+
+pub returns-in_ok-step-in-AtParent : goal.returns-in_ok-step-in-AtParent
+returns-in_ok-step-in-AtParent c = rw c.in-AtParent.is c.in_ok-step-in-AtParent.ensures

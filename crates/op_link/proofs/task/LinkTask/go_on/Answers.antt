@@ -1,7 +1,7 @@
 use Rattle.path_walk.specs.Stages.{trip_at}
 use Rattle.path_walk.proofs.StepLaws.{way_asks, way_ends}
 use Rattle.op_link.specs.Link.{does_at, reads_at}
-use Rattle.op_link.proofs.next.LinkTask.go_on.Goals as goal
+use Rattle.op_link.proofs.task.LinkTask.go_on.Goals as goal
 
 pub returns-in-Ask-clause-step : goal.returns-in-Ask-clause-step
 returns-in-Ask-clause-step c =
