@@ -1,9 +1,6 @@
 ghost use Rattle.std.specs.Prelude.{◌≡◌, [], IfOk, IsTrue};
-ghost use Rattle.std.specs.FinMap.{get};
 ghost use Rattle.byte_fields.specs.Fields.{time};
 ghost use Rattle.tree_model.specs.declared.walk.Walked.TheVariants.{AtParent};
-ghost use Rattle.row_tree.specs.TypedRows.{TypedRows};
-ghost use Rattle.txn_task.specs.Agreeing.{Agrees};
 ghost use Rattle.op_link.specs.Ending.{IsInDir, IsJoinStep, IsSource, MayJoin};
 
 use crate::rows::{in_range, put_joined, recounted};
