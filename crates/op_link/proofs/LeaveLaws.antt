@@ -144,7 +144,7 @@ module _ (stamp dir : ℕ) (name : List ℕ) where
         are : (C : Settings) → ArePuts C t.reads (left_puts dir name e.inode (recounted stamp (row.links - 1) row))
         are C = (
           row_put C t.reads e.inode small row is.there stamp (row.links - 1) time_ok
-          (λ S good agrees. let most = links_within row (row_fits t.reads e.inode row is.there S agrees) in (omega arith, (λ q. omega arith))),
+              (λ S good agrees. let most = links_within row (row_fits t.reads e.inode row is.there S agrees) in (omega arith, (λ q. omega arith))),
           (entry_taken C t.reads dir name low named e entry.there, tt),
         )
 

@@ -111,11 +111,10 @@ module _ (C : Settings) (reads : ReadSet) where
     row_put stamp links time_ok other = record {
       valid = small;
       no_kept = refl;
-      changes = λ S good agrees.
-          (
-            (refl, recounted_fits stamp links row time_ok (other S good agrees).0 (row_fits reads id row there S agrees)),
-            (λ same. (other S good agrees).1 (sym (ap links_of (sym (ap (option_map InodeValue) (there S agrees)) ∙ same)))),
-          );
+      changes = λ S good agrees. (
+        (refl, recounted_fits stamp links row time_ok (other S good agrees).0 (row_fits reads id row there S agrees)),
+        (λ same. (other S good agrees).1 (sym (ap links_of (sym (ap (option_map InodeValue) (there S agrees)) ∙ same)))),
+      );
     }
 
   -- a node that is there

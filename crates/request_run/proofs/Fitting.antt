@@ -266,7 +266,7 @@ emptied_fits : (T : Tree) (walked : Walked) → EndFits walked → AllFit (empti
 emptied_fits T (AtParent dir name) h = (
   h,
   taken_areas (get T.entries (dir, name)) (λ id. in_dir (get T.nodes id) (FirstRow (dir_prefix id) (raised (dir_prefix id)) ∷ []))
-  (λ id. dir_areas (get T.nodes id) (FirstRow (dir_prefix id) (raised (dir_prefix id)) ∷ []) (tt, tt)),
+      (λ id. dir_areas (get T.nodes id) (FirstRow (dir_prefix id) (raised (dir_prefix id)) ∷ []) (tt, tt)),
 )
 emptied_fits T (At id kind) h = tt
 emptied_fits T (NoName dir) h = tt
