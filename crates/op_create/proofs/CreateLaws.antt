@@ -52,8 +52,9 @@ use Rattle.path_walk.specs.Walks.{HasEnd}
 use Rattle.path_walk.specs.declared.stage.Stage.{Stage}
 use Rattle.path_walk.specs.declared.stage.Stage.TheVariants as stages
 use Rattle.path_walk.proofs.PutLaws.{absent_changes, puts_done}
-use Rattle.path_walk.proofs.AreaLaws.{no_areas}
-use Rattle.path_walk.proofs.StepLaws.{tells, asks_key, areas_on, read_behind, from_words, or_fault}
+use Rattle.path_walk.proofs.NameLaws as names
+use Rattle.path_walk.specs.Directories.{IsDirRead}
+use Rattle.path_walk.proofs.StepLaws.{tells, from_words, or_fault, same_path}
 use Rattle.path_walk.proofs.WalkLaws.{same_end}
 use Rattle.op_create.specs.declared.task.CreateTask.{CreateTask}
 use Rattle.op_create.specs.Create.{IsMaking, IsReady, IsWalkReady, IsEndStep, HasComeTo, made_at, areas_of, effect_of}
@@ -87,10 +88,6 @@ use Rattle.byte_fields.proofs.InRange.{small_mode, small_time}
 -- a call that makes a node, by the first fault of its words
 abbrev wanted : Settings → Tree → ℕ → ℕ → NewNode → Place → Effect
 wanted C T server stamp node where_to = on_path (path_of where_to.text) (λ path. or_fault (node_fault C node) (make_at C T server stamp node (resolve T where_to.base path Parent)))
-
-same_path : (r : Result Path Code) (f g : Path → Effect) → ((path : Path) → f path ≡ g path) → on_path r f ≡ on_path r g
-same_path (Ok path) f g same = same path
-same_path (Err code) f g same = refl
 
 by_layout : (fits : Bool) (effect : Effect) → or_fault (cond fits None (Some BadLayout)) effect ≡ cond fits effect (refuses BadLayout)
 by_layout true effect = refl
@@ -250,56 +247,31 @@ module _ (task : CreateTask) (dir : ℕ) (name : List ℕ) where
   abbrev outcome : Tree → Effect
   outcome T = made_at task T (AtParent dir name)
 
-  -- what is read behind the directory's row, and behind the entry
-  abbrev then_next : Tree → List Area
-  then_next T = if_free (get T.entries (dir, name)) (OneKey (keys.Alloc task.server) ∷ [])
-
-  abbrev then_name : Tree → List Area
-  then_name T = OneKey (keys.Dent dir name) ∷ then_next T
+  -- a directory with a default
+  is_dir : (reads : ReadSet) (default : DefaultLayout) → HasDefault reads dir default → IsDirRead reads dir
+  is_dir reads default has = record { row = has.row; is_dir = ap kind_of has.is_dir; seen = has.seen; there = has.there }
 
   module _ (t : Transaction) (none : t.writes ≡ []) where
     pub asks_dir : (key : Key) → (key ≡ keys.Inode dir) × IsUnread t.reads (keys.Inode dir) → IsEndStep task (AtParent dir name) t t (steps.Ask (asks.Get key))
-    asks_dir key unread = asks_key task.config areas outcome t none key (keys.Inode dir) (λ T. in_dir (get T.nodes dir) (then_name T)) unread (λ S good agrees. ([], tt, refl))
+    asks_dir key unread = names.asks_dir task.config (keys.Alloc task.server) outcome dir name t none key unread
 
     pub nowhere : IsKeyRead t.reads (keys.Inode dir) → ((C : Settings) (S : TypedRows) → IsWellFormed C S → Agrees S t.reads → HasKind S dir kinds.Dir → ⊥) → IsEndStep task (AtParent dir name) t t (steps.Reply (Refused codes.NotDir))
     nowhere read not_dir =
-        tells task.config areas outcome t none (Refused codes.NotDir)
-        (λ S good agrees. subst (AreRead t.reads) (sym (ap (λ (l : List Area). OneKey (keys.Inode dir) ∷ l) (no_areas S dir (then_name (tree_of S)) (not_dir task.config S good agrees)))) (read, tt))
+        names.nowhere task.config (keys.Alloc task.server) outcome dir name t none read (not_dir task.config) (Refused codes.NotDir)
         (λ S good agrees. make_nowhere task.config S good task.server task.stamp task.node dir name (not_dir task.config S good agrees))
-
-  -- ---- in a directory
-
-  module _ (reads : ReadSet) (default : DefaultLayout) (has : HasDefault reads dir default) where
-    behind_dir : KeepsAreas task.config areas then_name reads
-    behind_dir S good agrees = (
-      OneKey (keys.Inode dir) ∷ [],
-      (has.seen, tt),
-      ap (λ (n : Option Node). OneKey (keys.Inode dir) ∷ in_dir n (then_name (tree_of S))) (node_is S dir (Some has.row) (has.there S agrees))
-          ∙ ap (λ (p : InodePart). OneKey (keys.Inode dir) ∷ in_part (node_part p) (then_name (tree_of S))) has.is_dir,
-    )
-
-    behind_name : IsKeyRead reads (keys.Dent dir name) → KeepsAreas task.config areas then_next reads
-    behind_name read = areas_on task.config areas then_name then_next reads behind_dir (λ S good agrees. (OneKey (keys.Dent dir name) ∷ [], (read, tt), refl))
-
-    behind_free : IsKeyRead reads (keys.Dent dir name) → ((S : TypedRows) → Agrees S reads → get S.dents (dir, name) ≡ None) → KeepsAreas task.config areas (λ T. OneKey (keys.Alloc task.server) ∷ []) reads
-    behind_free read free =
-        areas_on task.config areas then_next (λ T. OneKey (keys.Alloc task.server) ∷ []) reads (behind_name read)
-        (λ S good agrees. ([], tt, ap (λ (o : Option ℕ). if_free o (OneKey (keys.Alloc task.server) ∷ [])) (entry_is S dir name None (free S agrees))))
 
   module _ (t : Transaction) (none : t.writes ≡ []) (default : DefaultLayout) (has : HasDefault t.reads dir default) where
     pub asks_name : (key : Key) → (key ≡ keys.Dent dir name) × IsUnread t.reads (keys.Dent dir name) → IsEndStep task (AtParent dir name) t t (steps.Ask (asks.Get key))
-    asks_name key unread = asks_key task.config areas outcome t none key (keys.Dent dir name) then_next unread (behind_dir t.reads default has)
+    asks_name key unread = names.asks_name task.config (keys.Alloc task.server) outcome dir name t none (is_dir t.reads default has) key unread
 
     pub taken : (e : DentRow) → IsKeyRead t.reads (keys.Dent dir name) → ((S : TypedRows) → Agrees S t.reads → get S.dents (dir, name) ≡ Some e) → IsEndStep task (AtParent dir name) t t (steps.Reply (Refused codes.Exists))
     taken e read is =
-        tells task.config areas outcome t none (Refused codes.Exists)
-        (read_behind task.config areas then_next t.reads (behind_name t.reads default has read)
-        (λ S good agrees. subst (AreRead t.reads) (sym (ap (λ (o : Option ℕ). if_free o (OneKey (keys.Alloc task.server) ∷ [])) (entry_is S dir name (Some e) (is S agrees)))) tt))
+        names.taken task.config (keys.Alloc task.server) outcome dir name t none (is_dir t.reads default has) e read is (Refused codes.Exists)
         (λ S good agrees. make_taken task.config S good task.server task.stamp task.node dir name e (is S agrees))
 
     pub asks_next : (key : Key) → IsKeyRead t.reads (keys.Dent dir name) → ((S : TypedRows) → Agrees S t.reads → get S.dents (dir, name) ≡ None) → (key ≡ keys.Alloc task.server) × IsUnread t.reads (keys.Alloc task.server)
         → IsEndStep task (AtParent dir name) t t (steps.Ask (asks.Get key))
-    asks_next key read free unread = asks_key task.config areas outcome t none key (keys.Alloc task.server) (λ T. []) unread (behind_free t.reads default has read free)
+    asks_next key read free unread = names.asks_last task.config (keys.Alloc task.server) outcome dir name t none (is_dir t.reads default has) key read free unread
 
   -- ---- all was read
 
@@ -314,7 +286,7 @@ module _ (task : CreateTask) (dir : ℕ) (name : List ℕ) where
     row = new_row task.config task.node task.stamp (id_of number task.server) dir (unwrap_or task.node.layout default)
 
     all_read : HasRead task.config areas reads
-    all_read = read_behind task.config areas (λ T. OneKey (keys.Alloc task.server) ∷ []) reads (behind_free reads default may.in_dir may.seen_name may.free) (λ S good agrees. (may.seen_next, tt))
+    all_read = names.all_read task.config (keys.Alloc task.server) outcome dir name reads (is_dir reads default may.in_dir) may.seen_name may.free may.seen_next
 
     room : (S : TypedRows) → Agrees S reads → IsRoom S task.server dir name default number
     room S agrees =

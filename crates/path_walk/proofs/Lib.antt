@@ -1,4 +1,5 @@
 pub mod AreaLaws
+pub mod NameLaws
 pub mod PutLaws
 pub mod StepLaws
 pub mod WalkLaws

@@ -155,6 +155,15 @@ module _ (C : Settings) (at : Tree → Walked → List Area) (effect : Tree → 
         done;
   }
 
+-- a step of a way that began as another is one of that other
+pub begun_done : (C : Settings) (at : Tree → Walked → List Area) (effect : Tree → Walked → Effect) (trip old new : Tree → Trip) (t after : Transaction) (step : OpStep) → ((T : Tree) → old T ≡ trip T)
+    → HasStepped C (looks at old) (looks at new) (does effect old) (does effect new) t after step → HasDone C (looks at trip) (does effect trip) t after step
+begun_done C at effect trip old new t after step starts stepped =
+    done_as C (looks at trip) (looks at new) (does effect trip) (does effect new) t after step
+    (λ S good agrees. let left = stepped.areas S good agrees in (left.0, left.1, sym (ap (λ (way : Trip). trip_areas way (at (tree_of S))) (starts (tree_of S))) ∙ left.2))
+    (λ S good agrees. stepped.effect S good agrees ∙ ap (λ (way : Trip). effect (tree_of S) way.end) (starts (tree_of S)))
+    stepped.done
+
 -- ---- how a call begins
 
 abbrev pub or_fault : Option Code → Effect → Effect
@@ -167,3 +176,8 @@ pub from_words : (effect : Walked → Effect) → ((code : Code) → effect (Sto
 from_words effect stops T base end (Err code) fault = stops code
 from_words effect stops T base end (Ok path) None = refl
 from_words effect stops T base end (Ok path) (Some code) = stops code
+
+-- the same for each path
+pub same_path : (r : Result Path Code) (f g : Path → Effect) → ((path : Path) → f path ≡ g path) → on_path r f ≡ on_path r g
+same_path (Ok path) f g same = same path
+same_path (Err code) f g same = refl

@@ -10,6 +10,8 @@ use Rattle.fs_base.specs.declared.code.Code.{Code}
 use Rattle.fs_base.specs.declared.kind.Kind.TheVariants as kinds
 use Rattle.fs_base.specs.declared.path.Path.{Path}
 use Rattle.fs_base.specs.Paths.{path_of}
+use Rattle.key_schema.specs.Ranges.{dir_prefix, raised}
+use Rattle.key_schema.specs.declared.key.Key.{Key}
 use Rattle.key_schema.specs.declared.key.Key.TheVariants as keys
 use Rattle.tree_model.specs.declared.kept.KeptReply.{KeptReply}
 use Rattle.tree_model.specs.declared.new_node.NewNode.{NewNode}
@@ -24,8 +26,8 @@ use Rattle.tree_model.specs.Calls.{is_query}
 use Rattle.tree_model.specs.Creating.{new_dir, new_file, new_link}
 use Rattle.tree_model.specs.Tree.{Tree}
 use Rattle.tree_model.specs.Walk.{Trip, stay, travel}
-use Rattle.path_walk.specs.Areas.{Area, OneKey, entries, trip_areas}
-use Rattle.path_walk.specs.Faults.{node_fault}
+use Rattle.path_walk.specs.Areas.{Area, OneKey, FirstRow, entries, trip_areas}
+use Rattle.path_walk.specs.Faults.{node_fault, refusal}
 
 -- ---- the way of a call
 
@@ -76,14 +78,49 @@ abbrev pub if_free : Option ℕ → List Area → List Area
 if_free None areas = areas
 if_free (Some id) areas = []
 
--- the directory, the name in it, and the server's next number
+-- the directory, the name in it, and one key more where no entry stands
+abbrev pub name_at : Key → Tree → Walked → List Area
+name_at last T (AtParent dir name) = OneKey (keys.Inode dir) ∷ in_dir (get T.nodes dir) (OneKey (keys.Dent dir name) ∷ if_free (get T.entries (dir, name)) (OneKey last ∷ []))
+name_at last T _ = []
+
+-- that of the server's next number
 abbrev pub child_at : ℕ → Tree → Walked → List Area
-child_at server T (AtParent dir name) =
-    OneKey (keys.Inode dir) ∷ in_dir (get T.nodes dir) (OneKey (keys.Dent dir name) ∷ if_free (get T.entries (dir, name)) (OneKey (keys.Alloc server) ∷ []))
-child_at server T _ = []
+child_at server = name_at (keys.Alloc server)
 
 abbrev pub makes : Settings → Tree → ℕ → Place → NewNode → List Area
 makes C T server place node = along T place Parent (node_fault C node) (child_at server T)
+
+-- ---- a further entry, or one less
+
+-- what link's second walk reads, where the first has come to a node that may have more entries
+abbrev pub joined_at : Tree → Place → Walked → List Area
+joined_at T to (At id kinds.File) = along T to Parent None (name_at (keys.Inode id) T)
+joined_at T to (At id kinds.Link) = along T to Parent None (name_at (keys.Inode id) T)
+joined_at T to _ = []
+
+-- more is read of what an entry leads to, and of what is no directory
+abbrev pub if_taken : Option ℕ → (ℕ → List Area) → List Area
+if_taken None at = []
+if_taken (Some id) at = at id
+
+abbrev pub beside_part : NodePart → List Area → List Area
+beside_part (Dir layout) areas = []
+beside_part (File length truncs layout hint) areas = areas
+beside_part (Link target) areas = areas
+
+abbrev pub unless_dir : Option Node → List Area → List Area
+unless_dir None areas = []
+unless_dir (Some node) areas = beside_part node.part areas
+
+-- the entry, and the inode that it leads to
+abbrev pub unlinked_at : Tree → Walked → List Area
+unlinked_at T (AtParent dir name) = OneKey (keys.Dent dir name) ∷ if_taken (get T.entries (dir, name)) (λ id. unless_dir (get T.nodes id) (OneKey (keys.Inode id) ∷ []))
+unlinked_at T _ = []
+
+-- the entry, and whether one lies in the directory that it leads to
+abbrev pub emptied_at : Tree → Walked → List Area
+emptied_at T (AtParent dir name) = OneKey (keys.Dent dir name) ∷ if_taken (get T.entries (dir, name)) (λ id. in_dir (get T.nodes id) (FirstRow (dir_prefix id) (raised (dir_prefix id)) ∷ []))
+emptied_at T _ = []
 
 -- ---- the calls
 
@@ -96,6 +133,9 @@ call_areas C T server (calls.Mkdir place mode layout) = makes C T server place (
 call_areas C T server (calls.Create place mode layout) = makes C T server place (new_file mode layout)
 call_areas C T server (calls.Symlink place target) = makes C T server place (new_link target)
 call_areas C T server (calls.Setattr place changes) = along T place Follow None inode_at
+call_areas C T server (calls.Link from to) = along T from NoFollow (refusal (path_of to.text)) (joined_at T to)
+call_areas C T server (calls.Unlink place) = along T place Parent None (unlinked_at T)
+call_areas C T server (calls.Rmdir place) = along T place Parent None (emptied_at T)
 call_areas C T server _ = []
 
 -- a kept reply whose number isn't smaller decides

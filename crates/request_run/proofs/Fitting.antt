@@ -16,6 +16,8 @@ use Rattle.fs_base.specs.declared.path.Path.{Path}
 use Rattle.fs_base.specs.declared.row.Row.{Row}
 use Rattle.inode_record.specs.declared.inode.InodeRow.{InodeRow}
 use Rattle.key_schema.specs.Keys.{IsSpellable}
+use Rattle.key_schema.specs.Ranges.{dir_prefix, raised}
+use Rattle.key_schema.specs.declared.key.Key.{Key}
 use Rattle.key_schema.specs.declared.key.Key.TheVariants as keys
 use Rattle.row_tree.specs.Spelling.{Spells}
 use Rattle.row_tree.specs.TreeOf.{tree_of}
@@ -36,8 +38,8 @@ use Rattle.tree_model.specs.Creating.{new_dir, new_file, new_link}
 use Rattle.tree_model.specs.Tree.{Tree}
 use Rattle.tree_model.specs.Walk.{Visit, Inode, Entry, Trip, Behind, stay, visiting, ends_at, at_file, is_last_of_parent, is_last_unfollowed, on_target, at_link, at_part, at_node, at_entry, down, walk, if_dir, from_base, looks_at_base, travel}
 use Rattle.path_walk.specs.Areas.{Area, OneKey, FirstRow, Pages, IsArea, walked_areas, trip_areas}
-use Rattle.path_walk.specs.Faults.{node_fault}
-use Rattle.path_walk.specs.Footprint.{on_words, unless_fault, along, nothing_at, inode_at, link_at, entries_at, in_part, in_dir, if_free, child_at, makes, call_areas, if_new, footprint}
+use Rattle.path_walk.specs.Faults.{node_fault, refusal}
+use Rattle.path_walk.specs.Footprint.{on_words, unless_fault, along, nothing_at, inode_at, link_at, entries_at, in_part, in_dir, if_free, name_at, child_at, makes, joined_at, if_taken, beside_part, unless_dir, unlinked_at, emptied_at, call_areas, if_new, footprint}
 
 -- the number has eight bytes
 abbrev pub IsWord : ℕ → Type 0
@@ -221,19 +223,56 @@ free_areas : (o : Option ℕ) (areas : List Area) → AllFit areas → AllFit (i
 free_areas None areas h = h
 free_areas (Some id) areas h = tt
 
-child_fits : (server : ℕ) (T : Tree) (walked : Walked) → EndFits walked → AllFit (child_at server T walked)
-child_fits server T (AtParent dir name) h = (
+name_fits : (last : Key) → IsSpellable last → (T : Tree) (walked : Walked) → EndFits walked → AllFit (name_at last T walked)
+name_fits last fits T (AtParent dir name) h = (
   h,
-  dir_areas (get T.nodes dir) (OneKey (keys.Dent dir name) ∷ if_free (get T.entries (dir, name)) (OneKey (keys.Alloc server) ∷ [])) (h, free_areas (get T.entries (dir, name)) (OneKey (keys.Alloc server) ∷ []) (tt, tt)),
+  dir_areas (get T.nodes dir) (OneKey (keys.Dent dir name) ∷ if_free (get T.entries (dir, name)) (OneKey last ∷ [])) (h, free_areas (get T.entries (dir, name)) (OneKey last ∷ []) (fits, tt)),
 )
-child_fits server T (At id kind) h = tt
-child_fits server T (NoName dir) h = tt
-child_fits server T (Stopped code) h = tt
+name_fits last fits T (At id kind) h = tt
+name_fits last fits T (NoName dir) h = tt
+name_fits last fits T (Stopped code) h = tt
 
 makes_fit : (C : Settings) (T : Tree) → NodesFit T → (server : ℕ) (place : Place) (node : NewNode) → IsWord place.base → AllFit (makes C T server place node)
-makes_fit C T fit server place node small = along_fits T fit place Parent (node_fault C node) (child_at server T) small (child_fits server T)
+makes_fit C T fit server place node small = along_fits T fit place Parent (node_fault C node) (child_at server T) small (name_fits (keys.Alloc server) tt T)
 
--- the place that a call's walk starts at
+joined_fits : (T : Tree) → NodesFit T → (to : Place) → IsWord to.base → (walked : Walked) → EndFits walked → AllFit (joined_at T to walked)
+joined_fits T fit to small (At id kinds.File) h = along_fits T fit to Parent None (name_at (keys.Inode id) T) small (name_fits (keys.Inode id) h T)
+joined_fits T fit to small (At id kinds.Link) h = along_fits T fit to Parent None (name_at (keys.Inode id) T) small (name_fits (keys.Inode id) h T)
+joined_fits T fit to small (At id kinds.Dir) h = tt
+joined_fits T fit to small (AtParent dir name) h = tt
+joined_fits T fit to small (NoName dir) h = tt
+joined_fits T fit to small (Stopped code) h = tt
+
+beside_areas : (part : NodePart) (areas : List Area) → AllFit areas → AllFit (beside_part part areas)
+beside_areas (nodes.Dir layout) areas h = tt
+beside_areas (nodes.File length truncs layout hint) areas h = h
+beside_areas (nodes.Link target) areas h = h
+
+target_fits : (T : Tree) → NodesFit T → (id : ℕ) (o : Option Node) → get T.nodes id ≡ o → AllFit (unless_dir o (OneKey (keys.Inode id) ∷ []))
+target_fits T fit id None is = tt
+target_fits T fit id (Some node) is = beside_areas node.part (OneKey (keys.Inode id) ∷ []) (fit id node is, tt)
+
+taken_areas : (o : Option ℕ) (at : ℕ → List Area) → ((id : ℕ) → AllFit (at id)) → AllFit (if_taken o at)
+taken_areas None at h = tt
+taken_areas (Some id) at h = h id
+
+unlinked_fits : (T : Tree) → NodesFit T → (walked : Walked) → EndFits walked → AllFit (unlinked_at T walked)
+unlinked_fits T fit (AtParent dir name) h = (h, taken_areas (get T.entries (dir, name)) (λ id. unless_dir (get T.nodes id) (OneKey (keys.Inode id) ∷ [])) (λ id. target_fits T fit id (get T.nodes id) refl))
+unlinked_fits T fit (At id kind) h = tt
+unlinked_fits T fit (NoName dir) h = tt
+unlinked_fits T fit (Stopped code) h = tt
+
+emptied_fits : (T : Tree) (walked : Walked) → EndFits walked → AllFit (emptied_at T walked)
+emptied_fits T (AtParent dir name) h = (
+  h,
+  taken_areas (get T.entries (dir, name)) (λ id. in_dir (get T.nodes id) (FirstRow (dir_prefix id) (raised (dir_prefix id)) ∷ []))
+      (λ id. dir_areas (get T.nodes id) (FirstRow (dir_prefix id) (raised (dir_prefix id)) ∷ []) (tt, tt)),
+)
+emptied_fits T (At id kind) h = tt
+emptied_fits T (NoName dir) h = tt
+emptied_fits T (Stopped code) h = tt
+
+-- the places that a call's walks start at
 abbrev pub BaseFits : Call → Type 0
 BaseFits (calls.Lookup place) = IsWord place.base
 BaseFits (calls.Stat place) = IsWord place.base
@@ -243,6 +282,9 @@ BaseFits (calls.Mkdir place mode layout) = IsWord place.base
 BaseFits (calls.Create place mode layout) = IsWord place.base
 BaseFits (calls.Symlink place target) = IsWord place.base
 BaseFits (calls.Setattr place changes) = IsWord place.base
+BaseFits (calls.Link from to) = IsWord from.base × IsWord to.base
+BaseFits (calls.Unlink place) = IsWord place.base
+BaseFits (calls.Rmdir place) = IsWord place.base
 BaseFits call = Unit {0}
 
 call_fits : (C : Settings) (T : Tree) → NodesFit T → (server : ℕ) (call : Call) → BaseFits call → AllFit (call_areas C T server call)
@@ -254,6 +296,9 @@ call_fits C T fit server (calls.Mkdir place mode layout) small = makes_fit C T f
 call_fits C T fit server (calls.Create place mode layout) small = makes_fit C T fit server place (new_file mode layout) small
 call_fits C T fit server (calls.Symlink place target) small = makes_fit C T fit server place (new_link target) small
 call_fits C T fit server (calls.Setattr place changes) small = along_fits T fit place Follow None inode_at small inode_fits
+call_fits C T fit server (calls.Link from to) small = along_fits T fit from NoFollow (refusal (path_of to.text)) (joined_at T to) small.0 (joined_fits T fit to small.1)
+call_fits C T fit server (calls.Unlink place) small = along_fits T fit place Parent None (unlinked_at T) small (unlinked_fits T fit)
+call_fits C T fit server (calls.Rmdir place) small = along_fits T fit place Parent None (emptied_at T) small (emptied_fits T)
 call_fits C T fit server call small = tt
 
 -- a client of 16 bytes, and a base of eight

@@ -1,0 +1,194 @@
+-- What unlink owes where its way ends, by what is known of the rows.
+use Rattle.std.proofs.Common.{◌≡◌, ◌≢◌, ℕ, ◌-◌, ◌<◌, ◌≤◌, ◌^◌, List, [], ◌∷◌, refl, sym, ap, subst, ◌∙◌, arith}
+use Rattle.std.specs.Prelude.{IsTrue, Option, Some, None}
+use Rattle.std.specs.FinMap.{get}
+use Rattle.byte_fields.specs.Fields.{time}
+use Rattle.conflict_sets.specs.declared.sets.ReadSet.{ReadSet}
+use Rattle.fs_base.specs.Config.{Settings}
+use Rattle.fs_base.specs.Names.{is_name}
+use Rattle.fs_base.specs.declared.code.Code.{Code}
+use Rattle.fs_base.specs.declared.code.Code.TheVariants as codes
+use Rattle.fs_base.specs.declared.kind.Kind.{Kind}
+use Rattle.fs_base.specs.declared.kind.Kind.TheVariants as kinds
+use Rattle.fs_base.specs.declared.reply.Reply.TheVariants.{Done, Refused}
+use Rattle.inode_record.specs.declared.inode.InodePart.{InodePart}
+use Rattle.inode_record.specs.declared.inode.InodePart.TheVariants as parts
+use Rattle.inode_record.specs.declared.inode.InodeRow.{InodeRow}
+use Rattle.key_schema.specs.declared.key.Key.{Key}
+use Rattle.key_schema.specs.declared.key.Key.TheVariants as keys
+use Rattle.row_records.proofs.InRange.{done_fits}
+use Rattle.row_records.specs.declared.rows.DentRow.{DentRow}
+use Rattle.row_records.specs.declared.rows.GcRow.TheVariants.{Waiting}
+use Rattle.row_tree.specs.Steps.{recounted}
+use Rattle.row_tree.specs.TreeOf.{tree_of, node_part}
+use Rattle.row_tree.specs.TypedRows.{TypedRows, kind_of}
+use Rattle.row_tree.specs.Values.{Value}
+use Rattle.row_tree.specs.WellFormed.{IsWellFormed}
+use Rattle.row_tree.proofs.Detaching.{unlink_absent, unlink_dir, unlink_goes, unlink_stays, unlink_waits}
+use Rattle.row_tree.proofs.Telling.{node_is}
+use Rattle.tree_model.specs.declared.node.Node.{Node}
+use Rattle.tree_model.specs.declared.walk.Walked.TheVariants.{At, AtParent, NoName, Stopped}
+use Rattle.tree_model.specs.Effects.{Effect, at_length}
+use Rattle.tree_model.specs.Linking.{unlink_at}
+use Rattle.tree_model.specs.Tree.{Tree}
+use Rattle.tree_model.proofs.MapLaws.{not_some, same_some}
+use Rattle.txn_task.specs.Agreeing.{Agrees}
+use Rattle.txn_task.specs.Transactions.{Transaction}
+use Rattle.txn_task.specs.Wanted.{IsKeyRead, IsUnread}
+use Rattle.txn_task.specs.declared.messages.Ask.TheVariants as asks
+use Rattle.txn_task.specs.declared.messages.Asked.{Asked}
+use Rattle.txn_task.specs.declared.messages.OpStep.TheVariants as steps
+use Rattle.path_walk.specs.Areas.{Area, OneKey, AreRead}
+use Rattle.path_walk.specs.Footprint.{beside_part, unless_dir, unlinked_at}
+use Rattle.path_walk.specs.Owed.{HasRead, KeepsAreas}
+use Rattle.path_walk.specs.Puts.{ArePuts, MakesPuts, put_writes}
+use Rattle.path_walk.proofs.NameLaws as names
+use Rattle.path_walk.proofs.PutLaws.{puts_done}
+use Rattle.path_walk.proofs.StepLaws.{areas_on, asks_key, read_behind, tells}
+use Rattle.op_link.specs.Ending.{IsEndStep, IsEntryRead, IsRowRead}
+use Rattle.op_link.specs.Puts.{gone_puts, left_puts, waiting_puts}
+use Rattle.op_link.specs.declared.task.LinkCall.TheVariants as link
+use Rattle.op_link.proofs.PutLaws.{entry_taken, links_within, node_taken, row_fits, row_put, waiting_put}
+use Rattle.op_link.proofs.SourceLaws.{entry_links}
+
+-- ---- where the way comes to no name
+
+module _ (t : Transaction) (none : t.writes ≡ []) (stamp : ℕ) where
+  pub at_node : (id : ℕ) (kind : Kind) → IsEndStep link.Unlink stamp (At id kind) t t (steps.Reply (Refused codes.IsRoot))
+  at_node id kind C = tells C (λ T. unlinked_at T (At id kind)) (λ T. unlink_at T stamp (At id kind)) t none (Refused codes.IsRoot) (λ S good agrees. tt) (λ S good agrees. refl)
+
+  pub no_name : (dir : ℕ) → IsEndStep link.Unlink stamp (NoName dir) t t (steps.Reply (Refused codes.IsRoot))
+  no_name dir C = tells C (λ T. unlinked_at T (NoName dir)) (λ T. unlink_at T stamp (NoName dir)) t none (Refused codes.IsRoot) (λ S good agrees. tt) (λ S good agrees. refl)
+
+  pub stopped : (code : Code) → IsEndStep link.Unlink stamp (Stopped code) t t (steps.Reply (Refused code))
+  stopped code C = tells C (λ T. unlinked_at T (Stopped code)) (λ T. unlink_at T stamp (Stopped code)) t none (Refused code) (λ S good agrees. tt) (λ S good agrees. refl)
+
+beside_dir : (part : InodePart) (areas : List Area) → kind_of part ≡ kinds.Dir → beside_part (node_part part) areas ≡ []
+beside_dir (parts.Dir parent chunk stripe) areas k = refl
+beside_dir (parts.File length truncs layout hint) areas k = cc
+beside_dir (parts.Link target) areas k = cc
+
+beside_other : (part : InodePart) (areas : List Area) → kind_of part ≢ kinds.Dir → beside_part (node_part part) areas ≡ areas
+beside_other (parts.Dir parent chunk stripe) areas k = absurd (k refl)
+beside_other (parts.File length truncs layout hint) areas k = refl
+beside_other (parts.Link target) areas k = refl
+
+module _ (stamp dir : ℕ) (name : List ℕ) where
+  abbrev outcome : Tree → Effect
+  outcome T = unlink_at T stamp (AtParent dir name)
+
+  abbrev areas : Tree → List Area
+  areas T = unlinked_at T (AtParent dir name)
+
+  abbrev node : Tree → ℕ → List Area
+  node T id = unless_dir (get T.nodes id) (OneKey (keys.Inode id) ∷ [])
+
+  module _ (t : Transaction) (none : t.writes ≡ []) where
+    pub asks_entry : (key : Key) → (key ≡ keys.Dent dir name) × IsUnread t.reads (keys.Dent dir name) → IsEndStep link.Unlink stamp (AtParent dir name) t t (steps.Ask (asks.Get key))
+    asks_entry key unread C = names.asks_entry C outcome dir name node t none key unread
+
+    pub no_entry : IsKeyRead t.reads (keys.Dent dir name) → ((S : TypedRows) → Agrees S t.reads → get S.dents (dir, name) ≡ None) → IsEndStep link.Unlink stamp (AtParent dir name) t t (steps.Reply (Refused codes.NotFound))
+    no_entry read free C = names.no_entry C outcome dir name node t none read free (Refused codes.NotFound) (λ S good agrees. unlink_absent C S good stamp dir name (free S agrees))
+
+  -- ---- of what the entry leads to
+
+  module _ (C : Settings) (reads : ReadSet) (e : DentRow) (entry : IsEntryRead reads dir name e) where
+    behind_entry : KeepsAreas C areas (λ T. node T e.inode) reads
+    behind_entry = names.behind_entry C outcome dir name node reads e entry.seen entry.there
+
+    target_areas : (wanted : List Area) → ((part : InodePart) → kind_of part ≡ e.kind → beside_part (node_part part) (OneKey (keys.Inode e.inode) ∷ []) ≡ wanted)
+        → (S : TypedRows) → IsWellFormed C S → Agrees S reads → node (tree_of S) e.inode ≡ wanted
+    target_areas wanted by S good agrees =
+        let target = (good.entry dir name e (entry.there S agrees)).target in
+        ap (λ (o : Option Node). unless_dir o (OneKey (keys.Inode e.inode) ∷ [])) (node_is S e.inode (Some target.0) target.1) ∙ by target.0.part target.2
+
+    no_more : e.kind ≡ kinds.Dir → HasRead C areas reads
+    no_more is_dir =
+        read_behind C areas (λ T. node T e.inode) reads behind_entry
+        (λ S good agrees. subst (AreRead reads) (sym (target_areas [] (λ part k. beside_dir part _ (k ∙ is_dir)) S good agrees)) tt)
+
+    behind_other : e.kind ≢ kinds.Dir → KeepsAreas C areas (λ T. OneKey (keys.Inode e.inode) ∷ []) reads
+    behind_other other =
+        areas_on C areas (λ T. node T e.inode) (λ T. OneKey (keys.Inode e.inode) ∷ []) reads behind_entry
+        (λ S good agrees. ([], tt, target_areas (OneKey (keys.Inode e.inode) ∷ []) (λ part k. beside_other part _ (λ d. other (sym k ∙ d))) S good agrees))
+
+    all_read : e.kind ≢ kinds.Dir → IsKeyRead reads (keys.Inode e.inode) → HasRead C areas reads
+    all_read other seen = read_behind C areas (λ T. OneKey (keys.Inode e.inode) ∷ []) reads (behind_other other) (λ S good agrees. (seen, tt))
+
+  module _ (t : Transaction) (none : t.writes ≡ []) (e : DentRow) (entry : IsEntryRead t.reads dir name e) where
+    pub at_dir : e.kind ≡ kinds.Dir → IsEndStep link.Unlink stamp (AtParent dir name) t t (steps.Reply (Refused codes.IsDir))
+    at_dir is_dir C = tells C areas outcome t none (Refused codes.IsDir) (no_more C t.reads e entry is_dir) (λ S good agrees. unlink_dir C S good stamp dir name e (entry.there S agrees) is_dir)
+
+    module _ (other : e.kind ≢ kinds.Dir) where
+      pub asks_node : (key : Key) → (key ≡ keys.Inode e.inode) × IsUnread t.reads (keys.Inode e.inode) → IsEndStep link.Unlink stamp (AtParent dir name) t t (steps.Ask (asks.Get key))
+      asks_node key unread C = asks_key C areas outcome t none key (keys.Inode e.inode) (λ T. []) unread (behind_other C t.reads e entry other)
+
+      -- no rows have the entry, and not the node
+      pub no_node : IsKeyRead t.reads (keys.Inode e.inode) → ((S : TypedRows) → Agrees S t.reads → get S.inodes e.inode ≡ None) → IsEndStep link.Unlink stamp (AtParent dir name) t t (steps.Reply (Refused codes.NotFound))
+      no_node seen absent C =
+          tells C areas outcome t none (Refused codes.NotFound) (all_read C t.reads e entry other seen)
+          (λ S good agrees. let target = (good.entry dir name e (entry.there S agrees)).target in absurd (not_some target.0 (absent S agrees) target.1))
+
+  -- ---- all was read
+
+  module _ (t : Transaction) (none : t.writes ≡ []) (e : DentRow) (entry : IsEntryRead t.reads dir name e) (other : e.kind ≢ kinds.Dir) (row : InodeRow) (is : IsRowRead t.reads e.inode row) (small : e.inode < 2 ^ 36) (low : dir < 2 ^ 36) (named : IsTrue (is_name name))
+      (u : Transaction) (asked : List Asked) (empty : asked ≡ []) where
+    commits : (puts : List (Key × Option Value)) → ((C : Settings) → ArePuts C t.reads puts) → u ≡ record t { writes = put_writes puts } → ((C : Settings) → MakesPuts C outcome t.reads puts Done)
+        → IsEndStep link.Unlink stamp (AtParent dir name) t u (steps.Commit Done asked)
+    commits puts are after makes C = puts_done C areas outcome t u Done asked puts (all_read C t.reads e entry other is.seen) (are C) after done_fits empty (makes C)
+
+    pub fewer_done : IsTrue (time.fits stamp) → 2 ≤ row.links → u ≡ record t { writes = put_writes (left_puts dir name e.inode (recounted stamp (row.links - 1) row)) }
+        → IsEndStep link.Unlink stamp (AtParent dir name) t u (steps.Commit Done asked)
+    fewer_done time_ok more after = commits (left_puts dir name e.inode (recounted stamp (row.links - 1) row)) are after makes
+      where
+        are : (C : Settings) → ArePuts C t.reads (left_puts dir name e.inode (recounted stamp (row.links - 1) row))
+        are C = (
+          row_put C t.reads e.inode small row is.there stamp (row.links - 1) time_ok
+              (λ S good agrees. let most = links_within row (row_fits t.reads e.inode row is.there S agrees) in (omega arith, (λ q. omega arith))),
+          (entry_taken C t.reads dir name low named e entry.there, tt),
+        )
+
+        makes : (C : Settings) → MakesPuts C outcome t.reads (left_puts dir name e.inode (recounted stamp (row.links - 1) row)) Done
+        makes C S good agrees =
+            let one = unlink_stays C S good stamp dir name e (entry.there S agrees) row (is.there S agrees) other more in
+            (one.0, ap (at_length 0) one.1)
+
+    -- no file waits that an entry leads to
+    not_waiting : (C : Settings) (S : TypedRows) → IsWellFormed C S → Agrees S t.reads → row.links ≡ 1 → get S.doomed e.inode ≢ Some Waiting
+    not_waiting C S good agrees one at =
+        let doom = (good.doomed e.inode Waiting at).0 in
+        let same : row.links ≡ doom.0.links = ap (λ (r : InodeRow). r.links) (same_some row doom.0 (is.there S agrees) doom.1) in
+        let zero : doom.0.links ≡ 0 = doom.3 in
+        omega arith
+
+    one_left : (C : Settings) (S : TypedRows) → IsWellFormed C S → Agrees S t.reads → row.links < 2 → row.links ≡ 1
+    one_left C S good agrees last = let some = entry_links C S good dir name e (entry.there S agrees) row (is.there S agrees) other in omega arith
+
+    pub waiting_done : IsTrue (time.fits stamp) → row.links < 2 → e.kind ≡ kinds.File → u ≡ record t { writes = put_writes (waiting_puts dir name e.inode (recounted stamp 0 row)) }
+        → IsEndStep link.Unlink stamp (AtParent dir name) t u (steps.Commit Done asked)
+    waiting_done time_ok last file after = commits (waiting_puts dir name e.inode (recounted stamp 0 row)) are after makes
+      where
+        are : (C : Settings) → ArePuts C t.reads (waiting_puts dir name e.inode (recounted stamp 0 row))
+        are C = (
+          waiting_put C t.reads e.inode small (λ S good agrees. not_waiting C S good agrees (one_left C S good agrees last)),
+          (
+            row_put C t.reads e.inode small row is.there stamp 0 time_ok (λ S good agrees. let one = one_left C S good agrees last in (omega arith, (λ q. omega arith))),
+            (entry_taken C t.reads dir name low named e entry.there, tt),
+          ),
+        )
+
+        makes : (C : Settings) → MakesPuts C outcome t.reads (waiting_puts dir name e.inode (recounted stamp 0 row)) Done
+        makes C S good agrees =
+            let one = unlink_waits C S good stamp dir name e (entry.there S agrees) row (is.there S agrees) other (one_left C S good agrees last) file in
+            (one.0, ap (at_length 0) one.1)
+
+    pub gone_done : row.links < 2 → e.kind ≡ kinds.Link → u ≡ record t { writes = put_writes (gone_puts dir name e.inode) } → IsEndStep link.Unlink stamp (AtParent dir name) t u (steps.Commit Done asked)
+    gone_done last link_kind after = commits (gone_puts dir name e.inode) are after makes
+      where
+        are : (C : Settings) → ArePuts C t.reads (gone_puts dir name e.inode)
+        are C = (node_taken C t.reads e.inode small (λ S good agrees. (row, is.there S agrees)), (entry_taken C t.reads dir name low named e entry.there, tt))
+
+        makes : (C : Settings) → MakesPuts C outcome t.reads (gone_puts dir name e.inode) Done
+        makes C S good agrees =
+            let one = unlink_goes C S good stamp dir name e (entry.there S agrees) row (is.there S agrees) other (one_left C S good agrees last) link_kind in
+            (one.0, ap (at_length 0) one.1)

@@ -1,0 +1,6 @@
+pub mod JoinLaws
+pub mod LeaveLaws
+pub mod PutLaws
+pub mod RemoveLaws
+pub mod SourceLaws
+pub mod StartLaws

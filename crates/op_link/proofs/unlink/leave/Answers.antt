@@ -1,0 +1,17 @@
+use Rattle.op_link.proofs.LeaveLaws.{asks_node, no_node}
+use Rattle.op_link.proofs.unlink.leave.Goals as goal
+
+pub returns-in-Ask : goal.returns-in-Ask
+returns-in-Ask c =
+    asks_node c.args.stamp c.args.dir c.args.name.now c.args.txn.now c.requires.writes c.args.entry c.requires.entry c.requires.no_dir c.in-Ask.key (rw c.in-Ask.is at c.in_ok-key.ensures)
+
+pub returns-in-Absent : goal.returns-in-Absent
+returns-in-Absent c =
+    let want = rw c.in-Absent.is at c.in_ok-key.ensures in
+    no_node c.args.stamp c.args.dir c.args.name.now c.args.txn.now c.requires.writes c.args.entry c.requires.entry c.requires.no_dir want.0 want.1
+
+pub put_fewer-requires-clause-row : goal.put_fewer-requires-clause-row
+put_fewer-requires-clause-row c = let want = rw c.in-There.is at c.in_ok-key.ensures in record { seen = want.0; there = want.1 }
+
+pub put_last-requires-clause-row : goal.put_last-requires-clause-row
+put_last-requires-clause-row c = let want = rw c.in-There.is at c.in_ok-key.ensures in record { seen = want.0; there = want.1 }

@@ -1,0 +1,51 @@
+-- What link, unlink or rmdir under way comes to, and what it still reads.
+use Rattle.std.specs.Prelude.{ℕ, IsTrue, List, None}
+use Rattle.byte_fields.specs.Fields.{time}
+use Rattle.fs_base.specs.declared.call.Call.{Call}
+use Rattle.fs_base.specs.declared.call.Call.TheVariants as calls
+use Rattle.fs_base.specs.declared.call.Place.{Place}
+use Rattle.tree_model.specs.declared.walk.WalkEnd.TheVariants.{Parent}
+use Rattle.tree_model.specs.declared.walk.Walked.{Walked}
+use Rattle.tree_model.specs.Effects.{Effect}
+use Rattle.tree_model.specs.Linking.{link_at, unlink_at, rmdir_at}
+use Rattle.tree_model.specs.Tree.{Tree}
+use Rattle.tree_model.specs.Walk.{Trip}
+use Rattle.path_walk.specs.Areas.{Area}
+use Rattle.path_walk.specs.Footprint.{trip_from, joined_at, unlinked_at, emptied_at}
+use Rattle.path_walk.specs.Stages.{does, looks, trip_at}
+use Rattle.op_link.specs.declared.task.LinkCall.{LinkCall}
+use Rattle.op_link.specs.declared.task.LinkCall.TheVariants as link
+use Rattle.op_link.specs.declared.task.LinkTask.{LinkTask}
+
+-- the calls of this task
+abbrev pub IsLinkCall : Call → Type 0
+IsLinkCall (calls.Link from to) = Unit {0}
+IsLinkCall (calls.Unlink place) = Unit {0}
+IsLinkCall (calls.Rmdir place) = Unit {0}
+IsLinkCall _ = ⊥
+
+-- the way to where a new entry comes
+abbrev pub way_to : Place → Tree → Trip
+way_to to = trip_from to Parent None
+
+-- what the call does where its way ends; link has a second way from there
+abbrev pub does_at : LinkCall → ℕ → Tree → Walked → Effect
+does_at (link.Link to) stamp T walked = link_at T stamp walked (way_to to T).end
+does_at link.Unlink stamp T walked = unlink_at T stamp walked
+does_at link.Rmdir stamp T walked = rmdir_at T walked
+
+-- what it reads there
+abbrev pub reads_at : LinkCall → Tree → Walked → List Area
+reads_at (link.Link to) T = joined_at T to
+reads_at link.Unlink T = unlinked_at T
+reads_at link.Rmdir T = emptied_at T
+
+abbrev pub effect_of : LinkTask → Tree → Effect
+effect_of task = does (does_at task.call task.stamp) (trip_at task.stage)
+
+abbrev pub areas_of : LinkTask → Tree → List Area
+areas_of task = looks (reads_at task.call) (trip_at task.stage)
+
+-- a time that a row may have
+abbrev pub IsReady : LinkTask → Type 0
+IsReady task = IsTrue (time.fits task.stamp)
