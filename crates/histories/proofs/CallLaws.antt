@@ -35,10 +35,12 @@ use Rattle.tree_model.specs.Effects.{Effect, Leaves, Makes, Settles, at_length, 
 use Rattle.tree_model.specs.Finding.{at_end, found_of, if_there, on_node, list_at, target_of, readlink_at, stat_at, setattr_at}
 use Rattle.tree_model.specs.Linking.{with_link, with_touched, without_dir, without_entry}
 use Rattle.tree_model.specs.Maps.{set}
+use Rattle.tree_model.specs.Moving.{moved, rename}
 use Rattle.tree_model.specs.Tree.{Tree, next_at, node_with}
 use Rattle.tree_model.specs.Walk.{resolve}
 use Rattle.tree_model.proofs.LinkingLaws.{link_is, unlink_is, rmdir_is}
 use Rattle.tree_model.proofs.MapLaws.{ids, get-set_same, get-set_cases}
+use Rattle.tree_model.proofs.RenameLaws.{rename_is}
 use Rattle.histories.specs.Steps.{PartLasts, NodeLasts, IsGivenOut, IsTreeStep, IsLawful}
 use Rattle.histories.proofs.Versions.{node_same, part_same}
 
@@ -236,6 +238,30 @@ module _ (T : Tree) (stamp : ℕ) where
   owes_waiting dir name id node is =
       (step_with T (record (with_touched (without_entry T dir name) stamp id node) { doomed = insert T.doomed id Waiting }) refl (lasts_changed T id node (touched stamp node) is refl) (waits_unpurged T id), refl, waits_unpurged T id)
 
+-- an entry that moves besides changes nothing of what is owed
+owes_moved : (T V : Tree) (from to : ℕ × List ℕ) (id : ℕ) → Owes T (Makes V Done) → Owes T (Makes (moved V from to id) Done)
+owes_moved T V from to id h = (
+  record {
+    next = h.0.next;
+    nodes = λ i. elim (h.0.nodes i) [ inl stays ↦ inl stays | inr given ↦ inr (record { server = given.server; known = given.known; is = given.is; rises = given.rises }) ];
+    purged = h.0.purged;
+  },
+  h.1,
+  h.2,
+)
+
+owes_none : (T : Tree) → Owes T (Makes T Done)
+owes_none T = (step_with T T refl (λ id. node_same (get T.nodes id)) (λ i layout hint there. there), refl, λ i layout hint there. there)
+
+owes_rename : (T : Tree) (stamp : ℕ) (from to : Place) → Owes T (rename T stamp from to)
+owes_rename T stamp =
+    rename_is (Owes T) T stamp (λ code. tt) (owes_none T)
+    (λ from to id. owes_moved T T from to id (owes_none T))
+    (λ from to id dir name old. owes_moved T (without_dir T dir name old) from to id (owes_gone T stamp dir name old))
+    (λ from to id dir name old node is. owes_moved T (with_touched (without_entry T dir name) stamp old node) from to id (owes_left T stamp dir name old node is))
+    (λ from to id dir name old node is.
+    owes_moved T (record (with_touched (without_entry T dir name) stamp old node) { doomed = insert T.doomed old Waiting }) from to id (owes_waiting T stamp dir name old node is))
+
 -- ---- all of them
 
 pub owes_call : (C : Settings) (T : Tree) (q : Request) (call : Call) → q.server < 16 → Owes T (effect_of C T q call)
@@ -250,6 +276,7 @@ owes_call C T q (calls.Setattr place changes) known = owes_at_end T place Follow
 owes_call C T q (calls.Link from to) known = link_is (Owes T) T q.stamp (λ code. tt) (owes_joined T q.stamp) from to
 owes_call C T q (calls.Unlink place) known = unlink_is (Owes T) T q.stamp (λ code. tt) (owes_gone T q.stamp) (owes_left T q.stamp) (owes_waiting T q.stamp) place
 owes_call C T q (calls.Rmdir place) known = rmdir_is (Owes T) T q.stamp (λ code. tt) (owes_gone T q.stamp) place
+owes_call C T q (calls.Rename from to) known = owes_rename T q.stamp from to
 owes_call C T q _ known = tt
 
 pub lawful : (C : Settings) → C.servers ≤ 16 → IsLawful C

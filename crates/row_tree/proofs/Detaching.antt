@@ -67,7 +67,7 @@ module _ (C : Settings) (S : TypedRows) (good : IsWellFormed C S) (stamp dir : �
   unlink_absent none = ap (unlink_entry (tree_of S) stamp dir name) (entry_is S dir name None none)
 
   module _ (e : DentRow) (at : get S.dents (dir, name) ≡ Some e) where
-    target : HasKind S e.inode e.kind
+    pub target : HasKind S e.inode e.kind
     target = (good.entry dir name e at).target
 
     not_root : e.inode ≢ 0
@@ -78,7 +78,7 @@ module _ (C : Settings) (S : TypedRows) (good : IsWellFormed C S) (stamp dir : �
         ap (rmdir_entry (tree_of S) dir name) (entry_is S dir name (Some e) at)
         ∙ ap (λ (o : Option Node). if_there o (λ node. rmdir_part (tree_of S) dir name e.inode node.part)) (node_is S e.inode (Some target.0) target.1)
 
-    unlink_target : unlink_at (tree_of S) stamp (AtParent dir name) ≡ unlink_part (tree_of S) stamp dir name e.inode (node_of target.0) (node_part target.0.part)
+    pub unlink_target : unlink_at (tree_of S) stamp (AtParent dir name) ≡ unlink_part (tree_of S) stamp dir name e.inode (node_of target.0) (node_part target.0.part)
     unlink_target =
         ap (unlink_entry (tree_of S) stamp dir name) (entry_is S dir name (Some e) at)
         ∙ ap (λ (o : Option Node). if_there o (λ node. unlink_part (tree_of S) stamp dir name e.inode node node.part)) (node_is S e.inode (Some target.0) target.1)

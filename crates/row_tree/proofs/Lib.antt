@@ -1,5 +1,7 @@
 pub mod Adding
+pub mod Ancestors
 pub mod Ascends
+pub mod Below
 pub mod Changing
 pub mod Counts
 pub mod Decided
@@ -9,6 +11,7 @@ pub mod Detaching
 pub mod DirRanges
 pub mod Joining
 pub mod Making
+pub mod Moving
 pub mod NewRowLaws
 pub mod OneTree
 pub mod OneValue
@@ -22,6 +25,8 @@ pub mod Ranges
 pub mod Refusals
 pub mod Relinking
 pub mod Removing
+pub mod Renaming
+pub mod Replacing
 pub mod RowByRow
 pub mod SpellingLaws
 pub mod Telling

@@ -15,7 +15,7 @@ use Rattle.tree_model.proofs.MapLaws.{ids, names, not_some, same_some, some_inje
 use Rattle.row_tree.specs.TypedRows.{TypedRows, kind_of, parent_of, parent_at, entries_to, is_to}
 use Rattle.row_tree.specs.TreeOf.{tree_of, node_of}
 use Rattle.row_tree.specs.WellFormed.{IsPath, IsGiven, HasKind, IsEntry, IsLinked, IsDoomed, IsWellFormed}
-use Rattle.row_tree.specs.Steps.{MayRemove, without_node}
+use Rattle.row_tree.specs.Steps.{IsPathAround, MayRemove, without_node}
 use Rattle.row_tree.proofs.Adding.{parent_row, parent_at_row}
 
 pub tree_without_node : (S : TypedRows) (dir : ℕ) (name : List ℕ) (e : DentRow) → tree_of (without_node S dir name e) ≡ record (tree_of S) { nodes = remove (tree_of S).nodes e.inode; entries = remove (tree_of S).entries (dir, name) }
@@ -98,6 +98,13 @@ module _ (C : Settings) (S : TypedRows) (good : IsWellFormed C S) (dir : ℕ) (n
   path_stays : (id : ℕ) (path : List ℕ) → id ≢ e.inode → IsPath S id path → IsPath after id path
   path_stays id [] other h = h
   path_stays id (parent ∷ path) other h = (parent_stays id parent other h.0, path_stays parent path (parent_apart id parent (zero_or id) h.0) h.1)
+
+  pub kind_left : (id : ℕ) (kind : Kind) → id ≢ e.inode → HasKind S id kind → HasKind after id kind
+  kind_left id kind other has = kind_stays id kind other has
+
+  pub around_left : (x id : ℕ) (path : List ℕ) → id ≢ e.inode → IsPathAround S x id path → IsPathAround after x id path
+  around_left x id [] other h = h
+  around_left x id (parent ∷ path) other h = (h.0, parent_stays id parent other h.1, around_left x parent path (parent_apart id parent (zero_or id) h.1) h.2)
 
   count_stays : (id : ℕ) → id ≢ e.inode → entries_to after id ≡ entries_to S id
   count_stays id other =

@@ -1,9 +1,11 @@
 -- The changes of rows that the calls are made of.
-use Rattle.std.specs.Prelude.{◌≡◌, ◌≢◌, ◌⊎◌, ℕ, ◌+◌, ◌^◌, ◌<◌, ◌≤◌, List, Option, Some, None}
+use Rattle.std.specs.Prelude.{◌≡◌, ◌≢◌, ◌⊎◌, ℕ, ◌+◌, ◌^◌, ◌<◌, ◌≤◌, List, [], ◌∷◌, Option, Some, None}
 use Rattle.std.specs.Ordering.{nat_cmp}
 use Rattle.std.specs.FinMap.{FinMap, get, insert, remove}
 use Rattle.fs_base.specs.Config.{Settings}
 use Rattle.fs_base.specs.declared.kind.Kind.TheVariants as kinds
+use Rattle.inode_record.specs.declared.inode.InodePart.{InodePart}
+use Rattle.inode_record.specs.declared.inode.InodePart.TheVariants as parts
 use Rattle.inode_record.specs.declared.inode.InodeRow.{InodeRow}
 use Rattle.row_records.specs.declared.rows.DentRow.{DentRow}
 use Rattle.row_records.specs.declared.rows.GcRow.{GcRow}
@@ -12,7 +14,7 @@ use Rattle.row_records.specs.declared.rows.KeptRow.{KeptRow}
 use Rattle.tree_model.specs.Maps.{set}
 use Rattle.tree_model.specs.Tree.{next_at}
 use Rattle.tree_model.specs.Creating.{id_of}
-use Rattle.row_tree.specs.TypedRows.{TypedRows, kind_of, parent_of, entries_to}
+use Rattle.row_tree.specs.TypedRows.{TypedRows, kind_of, parent_of, parent_at, entries_to}
 use Rattle.row_tree.specs.WellFormed.{HasKind, FitsConfig}
 
 -- ---- a node added
@@ -96,3 +98,30 @@ pub record MayRemove (S : TypedRows) (dir : ℕ) (name : List ℕ) (e : DentRow)
 
 abbrev pub without_node : TypedRows → ℕ → List ℕ → DentRow → TypedRows
 without_node S dir name e = record S { inodes = remove S.inodes e.inode; dents = remove S.dents (dir, name) }
+
+-- ---- an entry moved
+
+-- a directory's row under another parent; any other row stays
+abbrev pub reparented : ℕ → InodePart → InodePart
+reparented parent (parts.Dir before chunk stripe) = parts.Dir parent chunk stripe
+reparented parent (parts.File length truncs layout hint) = parts.File length truncs layout hint
+reparented parent (parts.Link target) = parts.Link target
+
+abbrev pub under : ℕ → InodeRow → InodeRow
+under parent row = record row { part = reparented parent row.part }
+
+-- from a directory up to the root, along these ids, none of which is the given one
+abbrev pub IsPathAround : TypedRows → ℕ → ℕ → List ℕ → Type 0
+IsPathAround S id dir [] = (dir ≢ id) × (dir ≡ 0)
+IsPathAround S id dir (parent ∷ path) = (dir ≢ id) × (parent_at S dir ≡ Some parent) × IsPathAround S id parent path
+
+-- an entry and its node's row, to a free name of a directory, which for a directory doesn't lie below it
+pub record MayMove (S : TypedRows) (dir : ℕ) (name : List ℕ) (e : DentRow) (row : InodeRow) (to : ℕ) (new : List ℕ) : Type 0 where
+  pub entry : get S.dents (dir, name) ≡ Some e
+  pub there : get S.inodes e.inode ≡ Some row
+  pub parent : HasKind S to kinds.Dir
+  pub free : get S.dents (to, new) ≡ None
+  pub around : e.kind ≡ kinds.Dir → (path : List ℕ) × IsPathAround S e.inode to path
+
+abbrev pub with_move : TypedRows → ℕ → List ℕ → DentRow → InodeRow → ℕ → List ℕ → TypedRows
+with_move S dir name e row to new = record S { inodes = insert S.inodes e.inode (under to row); dents = insert (remove S.dents (dir, name)) (to, new) e }

@@ -33,6 +33,7 @@ use Rattle.tree_model.specs.Effects.{Effect, Leaves, Makes, Settles, refuses, on
 use Rattle.tree_model.specs.Finding.{found_of, if_there, list_at, readlink_at, setattr_at, stat_at, target_of}
 use Rattle.tree_model.specs.Linking.{at_name, is_empty_dir, link_at, link_in, link_to, link_under, rmdir_at, rmdir_entry, rmdir_part, unlink_at, unlink_entry, unlink_part, with_link, without_dir}
 use Rattle.tree_model.specs.Maps.{is_end}
+use Rattle.tree_model.specs.Moving.{moved, dir_over, other_over, move_over, goes_below, move_to, move_in, move_under, move_at, move_entry, rename_at, have_names}
 use Rattle.tree_model.specs.Tree.{Tree, next_at, node_with}
 use Rattle.tree_model.specs.Walk.{Behind, Entry, Inode, Trip, at_entry, at_file, at_node, at_part, down, ends_at, from_base, is_last_of_parent, is_last_unfollowed, looks_at_base, on_target, resolve, stay, visiting, walk}
 use Rattle.tree_model.proofs.ApplyLaws.{IsNewNumber, apply_new, apply_query}
@@ -223,6 +224,10 @@ setattr_well T stamp changes (Stopped code) h = h
 setattr_well T stamp changes (AtParent id name) h = tt
 setattr_well T stamp changes (NoName id) h = tt
 
+unless_well : (o : Option ℕ) (act : Effect) → RepliesWell act → RepliesWell (unless_there o act)
+unless_well None act h = h
+unless_well (Some id) act h = tt
+
 module _ (C : Settings) (T : Tree) (server stamp : ℕ) (node : NewNode) where
   numbered_well : (dir : ℕ) (name : List ℕ) (layout : DefaultLayout) → RepliesWell (add_numbered C T server stamp node dir name layout)
   numbered_well dir name layout = by_last (next_at T.next server == 4294967295)
@@ -239,10 +244,6 @@ module _ (C : Settings) (T : Tree) (server stamp : ℕ) (node : NewNode) where
   child_well : (dir : ℕ) (name : List ℕ) (o : Option Node) → RepliesWell (add_child C T server stamp node dir name o)
   child_well dir name None = tt
   child_well dir name (Some parent) = in_well dir name parent.part
-
-  unless_well : (o : Option ℕ) (act : Effect) → RepliesWell act → RepliesWell (unless_there o act)
-  unless_well None act h = h
-  unless_well (Some id) act h = tt
 
   make_well : (walked : Walked) → EndsWell walked → RepliesWell (make_at C T server stamp node walked)
   make_well (At id kind) h = tt
@@ -272,15 +273,11 @@ module _ (T : Tree) (stamp : ℕ) where
   under_well id dir name None = tt
   under_well id dir name (Some parent) = link_in_well id dir name parent.part
 
-  free_well : (o : Option ℕ) (act : Effect) → RepliesWell act → RepliesWell (unless_there o act)
-  free_well None act h = h
-  free_well (Some id) act h = tt
-
   to_well : (id : ℕ) (to : Walked) → EndsWell to → RepliesWell (link_to T stamp id to)
   to_well id (At other kind) h = tt
   to_well id (NoName dir) h = tt
   to_well id (Stopped code) h = h
-  to_well id (AtParent dir name) h = free_well (get T.entries (dir, name)) (link_under T stamp id dir name (get T.nodes dir)) (under_well id dir name (get T.nodes dir))
+  to_well id (AtParent dir name) h = unless_well (get T.entries (dir, name)) (link_under T stamp id dir name (get T.nodes dir)) (under_well id dir name (get T.nodes dir))
 
   join_well : (from to : Walked) → EndsWell from → EndsWell to → RepliesWell (link_at T stamp from to)
   join_well (At id kinds.Dir) to h e = tt
@@ -318,6 +315,62 @@ module _ (T : Tree) (stamp : ℕ) where
   at_name_well (Stopped code) act h well = h
   at_name_well (AtParent dir name) act h well = well dir name
 
+-- ---- an entry that moves
+
+module _ (T : Tree) (stamp : ℕ) where
+  refused_or : (b : Bool) (act : Effect) → RepliesWell act → RepliesWell (cond b (refuses codes.IntoItself) act)
+  refused_or true act h = tt
+  refused_or false act h = h
+
+  dir_over_well : (from to : ℕ × List ℕ) (id old : ℕ) (part : NodePart) → RepliesWell (dir_over T from to id old part)
+  dir_over_well from to id old (Dir layout) = empty_well T stamp (moved (without_dir T to.0 to.1 old) from to id) (is_empty_dir T old)
+  dir_over_well from to id old (File length truncs layout hint) = tt
+  dir_over_well from to id old (Link target) = tt
+
+  other_over_well : (from to : ℕ × List ℕ) (id old : ℕ) (node : Node) (part : NodePart) → RepliesWell (other_over T stamp from to id old node part)
+  other_over_well from to id old node (Dir layout) = tt
+  other_over_well from to id old node (File length truncs layout hint) = tt
+  other_over_well from to id old node (Link target) = tt
+
+  over_well : (from to : ℕ × List ℕ) (id old : ℕ) (part : NodePart) (node : Node) → RepliesWell (move_over T stamp from to id old part node)
+  over_well from to id old (Dir layout) node = dir_over_well from to id old node.part
+  over_well from to id old (File length truncs layout hint) node = other_over_well from to id old node node.part
+  over_well from to id old (Link target) node = other_over_well from to id old node node.part
+
+  move_well : (from to : ℕ × List ℕ) (id : ℕ) (part : NodePart) (o : Option ℕ) → RepliesWell (move_to T stamp from to id part o)
+  move_well from to id part None = refused_or (goes_below T id part to.0) (Makes (moved T from to id) Done) tt
+  move_well from to id part (Some old) = by_same (old == id)
+    where
+      by_same : (b : Bool) → RepliesWell (cond b (Makes T Done) (cond (goes_below T id part to.0) (refuses codes.IntoItself) (if_there (get T.nodes old) (move_over T stamp from to id old part))))
+      by_same true = tt
+      by_same false =
+          refused_or (goes_below T id part to.0) (if_there (get T.nodes old) (move_over T stamp from to id old part))
+          (if_there_well (get T.nodes old) (move_over T stamp from to id old part) (over_well from to id old part))
+
+  move_in_well : (from to : ℕ × List ℕ) (id : ℕ) (part parent : NodePart) → RepliesWell (move_in T stamp from to id part parent)
+  move_in_well from to id part (Dir layout) = move_well from to id part (get T.entries to)
+  move_in_well from to id part (File length truncs layout hint) = tt
+  move_in_well from to id part (Link target) = tt
+
+  move_under_well : (from to : ℕ × List ℕ) (id : ℕ) (part : NodePart) (o : Option Node) → RepliesWell (move_under T stamp from to id part o)
+  move_under_well from to id part None = tt
+  move_under_well from to id part (Some parent) = move_in_well from to id part parent.part
+
+  move_at_well : (from : ℕ × List ℕ) (id : ℕ) (part : NodePart) (to : Walked) → EndsWell to → RepliesWell (move_at T stamp from id part to)
+  move_at_well from id part to h = at_name_well T stamp to (λ dir name. move_under T stamp from (dir, name) id part (get T.nodes dir)) h (λ dir name. move_under_well from (dir, name) id part (get T.nodes dir))
+
+  move_entry_well : (from : ℕ × List ℕ) (to : Walked) (o : Option ℕ) → EndsWell to → RepliesWell (move_entry T stamp from to o)
+  move_entry_well from to None h = tt
+  move_entry_well from to (Some id) h = if_there_well (get T.nodes id) (λ node. move_at T stamp from id node.part to) (λ node. move_at_well from id node.part to h)
+
+  rename_at_well : (from to : Walked) → EndsWell from → EndsWell to → RepliesWell (rename_at T stamp from to)
+  rename_at_well from to h e = at_name_well T stamp from (λ dir name. move_entry T stamp (dir, name) to (get T.entries (dir, name))) h (λ dir name. move_entry_well (dir, name) to (get T.entries (dir, name)) e)
+
+  names_well : (a b : Bool) (act : Effect) → RepliesWell act → RepliesWell (cond a (refuses codes.IsRoot) (cond b (refuses codes.IsRoot) act))
+  names_well true b act h = tt
+  names_well false true act h = tt
+  names_well false false act h = h
+
 call_well : (C : Settings) (T : Tree) (q : Request) (call : Call) → RepliesWell (effect_of C T q call)
 call_well C T q (calls.Lookup place) = by_path place.text (λ path. Leaves (found_of (resolve T place.base path NoFollow))) (λ path. found_well (resolve T place.base path NoFollow) (resolve_well T place.base path NoFollow))
 call_well C T q (calls.Stat place) = by_path place.text (λ path. stat_at T (resolve T place.base path Follow)) (λ path. stat_well T (resolve T place.base path Follow) (resolve_well T place.base path Follow))
@@ -346,6 +399,11 @@ call_well C T q (calls.Rmdir place) =
     by_path place.text (λ path. rmdir_at T (resolve T place.base path Parent))
     (λ path. at_name_well T q.stamp (resolve T place.base path Parent) (λ dir name. rmdir_entry T dir name (get T.entries (dir, name))) (resolve_well T place.base path Parent)
     (λ dir name. rmdir_entry_well T q.stamp dir name (get T.entries (dir, name))))
+call_well C T q (calls.Rename from to) =
+    by_path from.text (λ source. on_path (path_of to.text) (λ path. have_names source path (rename_at T q.stamp (resolve T from.base source Parent) (resolve T to.base path Parent))))
+    (λ source. by_path to.text (λ path. have_names source path (rename_at T q.stamp (resolve T from.base source Parent) (resolve T to.base path Parent)))
+    (λ path. names_well T q.stamp (is_end source.names) (is_end path.names) (rename_at T q.stamp (resolve T from.base source Parent) (resolve T to.base path Parent))
+    (rename_at_well T q.stamp (resolve T from.base source Parent) (resolve T to.base path Parent) (resolve_well T from.base source Parent) (resolve_well T to.base path Parent))))
 call_well C T q call = tt
 
 -- ---- replies

@@ -80,7 +80,7 @@ fn make_of(word: &str, place: Place, mode: &str, layout: &[&str]) -> Result<Call
 
 /// A call in words: its name, the number of the inode that its path starts at, the path, and what else it has. That is
 /// a mode and maybe a chunk and a stripe for `mkdir` and `create`, a target for `symlink`, a second inode and path for
-/// `link`, and for `setattr` five numbers, each of which may be `-`.
+/// `link` and `rename`, and for `setattr` five numbers, each of which may be `-`.
 pub fn call_of(alloc: Global, words: &[&str]) -> Result<Call> {
     let [word, base, path, more @ ..] = words else {
         bail!("a call has a name, an inode and a path");
@@ -99,6 +99,10 @@ pub fn call_of(alloc: Global, words: &[&str]) -> Result<Call> {
         ("link", [base, path]) => {
             let to = place_of(alloc, base, path)?;
             Ok(Call::Link { from: place, to })
+        }
+        ("rename", [base, path]) => {
+            let to = place_of(alloc, base, path)?;
+            Ok(Call::Rename { from: place, to })
         }
         (_, []) => query_of(word, place),
         _ => bail!("the call has no such words"),

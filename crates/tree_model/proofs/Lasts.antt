@@ -2,7 +2,7 @@
 use Rattle.std.proofs.Common.{rules, ◌≡◌, ◌≢◌, ℕ, zero, suc, ◌+◌, ◌==◌, Bool, true, false, cond, List, refl, sym, ap, subst, ◌∙◌, arith, eq-eqb, ne_eqb}
 use Rattle.std.specs.Prelude.{Option, Some, None, IsSome}
 use Rattle.std.specs.Option.{option_map}
-use Rattle.std.specs.FinMap.{get, insert, remove}
+use Rattle.std.specs.FinMap.{get, insert}
 use Rattle.fs_base.specs.declared.code.Code.TheVariants as codes
 use Rattle.fs_base.specs.declared.code.Limit.TheVariants.{Links}
 use Rattle.fs_base.specs.declared.layout.DefaultLayout.{DefaultLayout}
@@ -69,6 +69,12 @@ module _ (T : Tree) (stamp dir : ℕ) (name : List ℕ) (id : ℕ) (node : Node)
   by_last true = by_part node.part
   by_last false = ap (λ (o : Option Node). record (without_entry T dir name) { nodes = set T.nodes id (option_map (touched stamp) o) }) (sym there)
 
+  -- what becomes of the node, by the count before
+  pub unlinked_fared : (count : ℕ) (fate : Fate) → get T.entries (dir, name) ≡ Some id → count ≡ count_to T id → fate ≡ fate_of (count == 1) node.part
+      → unlinked (without_entry T dir name) stamp id node ≡ fared (without_entry T dir name) stamp id fate
+  unlinked_fared count fate at is chosen =
+      ap (λ b. cond b (let_go left stamp id node node.part) (with_touched left stamp id node)) (last_entry T dir name id at ∙ ap (λ n. n == 1) (sym is)) ∙ by_last (count == 1) ∙ ap (fared left stamp id) (sym chosen)
+
   pub entry_detached : (count : ℕ) (fate : Fate) → get T.entries (dir, name) ≡ Some id → ((layout : DefaultLayout) → node.part ≡ Dir layout → ⊥) → count ≡ count_to T id → fate ≡ fate_of (count == 1) node.part
       → IsSome (get T.nodes id) × (unlink_entry T stamp dir name (get T.entries (dir, name)) ≡ Makes (detached T stamp (dir, name) id fate) Done)
   entry_detached count fate at no_dir is chosen = (
@@ -76,7 +82,7 @@ module _ (T : Tree) (stamp dir : ℕ) (name : List ℕ) (id : ℕ) (node : Node)
     ap (unlink_entry T stamp dir name) at
         ∙ ap (λ (o : Option Node). if_there o (λ n. unlink_part T stamp dir name id n n.part)) there
         ∙ of_kind node.part refl
-        ∙ ap (λ (V : Tree). Makes V Done) (ap (λ b. cond b (let_go left stamp id node node.part) (with_touched left stamp id node)) (last_entry T dir name id at ∙ ap (λ n. n == 1) (sym is)) ∙ by_last (count == 1) ∙ ap (fared left stamp id) (sym chosen)),
+        ∙ ap (λ (V : Tree). Makes V Done) (unlinked_fared count fate at is chosen),
   )
     where
       of_kind : (part : NodePart) → node.part ≡ part → unlink_part T stamp dir name id node part ≡ Makes (unlinked (without_entry T dir name) stamp id node) Done

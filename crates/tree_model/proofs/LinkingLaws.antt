@@ -21,16 +21,16 @@ use Rattle.tree_model.specs.Attributes.{count_to}
 use Rattle.tree_model.specs.Creating.{unless_there}
 use Rattle.tree_model.specs.Effects.{Effect, Makes, refuses, on_path}
 use Rattle.tree_model.specs.Finding.{if_there}
-use Rattle.tree_model.specs.Linking.{with_link, link_node, link_in, link_under, link_to, link_at, link, with_touched, without_entry, let_go, unlinked, unlink_part, unlink_entry, unlink_at, unlink, without_dir, is_empty_dir, rmdir_part, rmdir_entry, rmdir_at, rmdir}
+use Rattle.tree_model.specs.Linking.{with_link, link_node, link_in, link_under, link_to, link_at, link, with_touched, without_entry, let_go, unlink_part, unlink_entry, unlink_at, unlink, without_dir, is_empty_dir, rmdir_part, rmdir_entry, rmdir_at, rmdir}
 use Rattle.tree_model.specs.Tree.{Tree}
 use Rattle.tree_model.specs.Walk.{resolve}
 
 module _ (P : Effect → Type 0) (T : Tree) (stamp : ℕ) (refused : (code : Code) → P (refuses code)) where
-  by_words : (r : Result Path Code) (f : Path → Effect) → ((path : Path) → P (f path)) → P (on_path r f)
+  pub by_words : (r : Result Path Code) (f : Path → Effect) → ((path : Path) → P (f path)) → P (on_path r f)
   by_words (Err code) f h = refused code
   by_words (Ok path) f h = h path
 
-  by_node : (o : Option Node) (f : Node → Effect) → ((node : Node) → o ≡ Some node → P (f node)) → P (if_there o f)
+  pub by_node : (o : Option Node) (f : Node → Effect) → ((node : Node) → o ≡ Some node → P (f node)) → P (if_there o f)
   by_node None f h = refused codes.NotFound
   by_node (Some node) f h = h node refl
 
@@ -109,7 +109,7 @@ module _ (P : Effect → Type 0) (T : Tree) (stamp : ℕ) (refused : (code : Cod
       part_goes dir name id node is (File length truncs layout hint) = waits dir name id node is
       part_goes dir name id node is (Link target) = goes dir name id
 
-      last_goes : (dir : ℕ) (name : List ℕ) (id : ℕ) (node : Node) → get T.nodes id ≡ Some node → (b : Bool)
+      pub last_goes : (dir : ℕ) (name : List ℕ) (id : ℕ) (node : Node) → get T.nodes id ≡ Some node → (b : Bool)
           → P (Makes (cond b (let_go (without_entry T dir name) stamp id node node.part) (with_touched (without_entry T dir name) stamp id node)) Done)
       last_goes dir name id node is true = part_goes dir name id node is node.part
       last_goes dir name id node is false = stays dir name id node is

@@ -380,6 +380,17 @@ module _ {K X : Type 0} {R : K → K → Ordering} (o : IsKeyOrder R) where
       over false x y z = refl
 
   -- to put back what stood there undoes an insertion
+  -- what is written at two keys is written in either order
+  pub set-swap : (m : FinMap R X) (j k : K) (v w : Option X) → j ≢ k → set (set m j v) k w ≡ set (set m k w) j v
+  set-swap m j k v w apart = same_map o.total o.same _ _ (λ q. elim (decide o q j) [
+    | inl p ↦
+        get-set_other o (set m j v) k w q (λ e. apart (sym p.0 ∙ e)) ∙ ap (get (set m j v)) p.0 ∙ get-set_same o m j v
+        ∙ sym (ap (get (set (set m k w) j v)) p.0 ∙ get-set_same o (set m k w) j v)
+    | inr p ↦
+        get-set o (set m j v) k w q ∙ ap (cond (eq_by_cmp R q k) w) (get-set_other o m j v q p.0) ∙ sym (get-set o m k w q)
+        ∙ sym (get-set_other o (set m k w) j v q p.0)
+  ])
+
   pub undone : (m : FinMap R X) (k : K) (v w : Option X) → w ≡ get m k → set (set m k v) k w ≡ m
   undone m k v w is = set-set m k v w ∙ set_present o m k w (sym is)
 

@@ -13,6 +13,7 @@ use Rattle.tree_model.specs.Creating.{make, symlink, new_dir, new_file}
 use Rattle.tree_model.specs.Effects.{Effect, Leaves, Makes, Settles}
 use Rattle.tree_model.specs.Finding.{lookup, stat, list, readlink, setattr}
 use Rattle.tree_model.specs.Linking.{link, unlink, rmdir}
+use Rattle.tree_model.specs.Moving.{rename}
 use Rattle.tree_model.specs.Tree.{Tree}
 
 -- the calls that servers take
@@ -25,13 +26,14 @@ is_built (calls.Mkdir place mode layout) = true
 is_built (calls.Create place mode layout) = true
 is_built (calls.Symlink place target) = true
 is_built (calls.Setattr place changes) = true
+is_built (calls.Link from to) = true
+is_built (calls.Unlink place) = true
+is_built (calls.Rmdir place) = true
 is_built _ = false
 
--- the calls whose effect is told here: those, and the three that no operation does yet
+-- the calls whose effect is told here: those, and rename, which no operation does yet
 abbrev pub is_told : Call → Bool
-is_told (calls.Link from to) = true
-is_told (calls.Unlink place) = true
-is_told (calls.Rmdir place) = true
+is_told (calls.Rename from to) = true
 is_told call = is_built call
 
 -- a query changes nothing, and its reply isn't kept
@@ -64,6 +66,7 @@ effect_of C T q (calls.Setattr place changes) = setattr T q.stamp place changes
 effect_of C T q (calls.Link from to) = link T q.stamp from to
 effect_of C T q (calls.Unlink place) = unlink T q.stamp place
 effect_of C T q (calls.Rmdir place) = rmdir T place
+effect_of C T q (calls.Rename from to) = rename T q.stamp from to
 effect_of C T q _ = Leaves Done
 
 abbrev pub effect : Settings → Tree → Request → Effect

@@ -7,6 +7,7 @@ pub mod Finding
 pub mod Linking
 pub mod Making
 pub mod Maps
+pub mod Moving
 pub mod Tree
 pub mod Walk
 pub mod Walking

@@ -1,5 +1,5 @@
 -- An update that is planned, and then done.
-use Rattle.std.specs.Prelude.{◌≡◌, ℕ, ◌+◌, ◌<◌, ◌==◌, nat_lt, Bool, true, false, if◌then◌else◌, List, Option, Some, None, IsSome}
+use Rattle.std.specs.Prelude.{◌≡◌, ◌≢◌, ℕ, ◌+◌, ◌<◌, ◌==◌, nat_lt, Bool, true, false, if◌then◌else◌, List, Option, Some, None, IsSome}
 use Rattle.std.specs.Option.{option_map}
 use Rattle.std.specs.Ordering.{nat_cmp}
 use Rattle.std.specs.FinMap.{FinMap, get, insert, remove}
@@ -16,10 +16,12 @@ use Rattle.tree_model.specs.declared.plan.Child.{Child}
 use Rattle.tree_model.specs.declared.plan.Fate.{Fate}
 use Rattle.tree_model.specs.declared.plan.Fate.TheVariants.{Stays, Waits, Goes}
 use Rattle.tree_model.specs.declared.plan.Plan.{Plan}
-use Rattle.tree_model.specs.declared.plan.Plan.TheVariants.{Refuse, Add, Change, Join, Detach}
+use Rattle.tree_model.specs.declared.plan.Shift.{Shift}
+use Rattle.tree_model.specs.declared.plan.Plan.TheVariants.{Refuse, Add, Change, Join, Detach, Keep, Move, Replace}
 use Rattle.tree_model.specs.Attributes.{changed, touched}
 use Rattle.tree_model.specs.Effects.{Effect, Makes, refuses}
 use Rattle.tree_model.specs.Maps.{set}
+use Rattle.tree_model.specs.Moving.{moved}
 use Rattle.tree_model.specs.Tree.{Tree}
 
 -- the tree with the child
@@ -59,6 +61,10 @@ fared T stamp id Goes = record T { nodes = remove T.nodes id }
 abbrev pub detached : Tree → ℕ → ℕ × List ℕ → ℕ → Fate → Tree
 detached T stamp key id fate = fared (record T { entries = remove T.entries key }) stamp id fate
 
+-- the entry at its new place, where an entry stood that its node has lost
+abbrev pub replaced : Tree → ℕ → Shift → ℕ → Fate → Tree
+replaced T stamp shift old fate = moved (detached T stamp shift.to old fate) shift.from shift.to shift.id
+
 -- the plan is what the call does
 abbrev pub IsPlan : Tree → ℕ → ℕ → Effect → Plan → Type 0
 IsPlan T server stamp effect (Refuse code) = effect ≡ refuses code
@@ -66,6 +72,10 @@ IsPlan T server stamp effect (Add child) = (effect ≡ Makes (added T server chi
 IsPlan T server stamp effect (Change id changes) = IsSome (get T.nodes id) × (effect ≡ Makes (altered T id changes stamp) Done)
 IsPlan T server stamp effect (Join key id) = IsSome (get T.nodes id) × (effect ≡ Makes (linked T stamp key id) Done)
 IsPlan T server stamp effect (Detach key id fate) = IsSome (get T.nodes id) × (effect ≡ Makes (detached T stamp key id fate) Done)
+IsPlan T server stamp effect Keep = effect ≡ Makes T Done
+IsPlan T server stamp effect (Move shift) = (shift.from ≢ shift.to) × (effect ≡ Makes (moved T shift.from shift.to shift.id) Done)
+IsPlan T server stamp effect (Replace shift old fate) =
+    (shift.from ≢ shift.to) × IsSome (get T.entries shift.to) × IsSome (get T.nodes old) × (effect ≡ Makes (replaced T stamp shift old fate) Done)
 
 -- the reply to a number that came before, or is older than one that did
 abbrev pub earlier_reply : ℕ → Option KeptReply → Option Reply

@@ -25,6 +25,9 @@ pub fn is_built(call: &Call) -> bool
             | Call::Create { .. }
             | Call::Symlink { .. }
             | Call::Setattr { .. }
+            | Call::Link { .. }
+            | Call::Unlink(_)
+            | Call::Rmdir(_)
     )
 }
 
@@ -33,9 +36,7 @@ pub fn is_told(call: &Call) -> bool
     ensures { result ≡ is_told call.now }
 {
     match call {
-        Call::Link { .. } => true,
-        Call::Unlink(_) => true,
-        Call::Rmdir(_) => true,
+        Call::Rename { .. } => true,
         _ => is_built(call),
     }
 }
@@ -102,6 +103,7 @@ impl Tree {
             Call::Link { from, to } => self.plan_link(alloc, request, from, to),
             Call::Unlink(place) => self.plan_unlink(alloc, request, place),
             Call::Rmdir(place) => self.plan_rmdir(alloc, request, place),
+            Call::Rename { from, to } => self.plan_rename(alloc, request, from, to),
             _ => unreachable!(),
         }
     }
@@ -126,6 +128,9 @@ impl Tree {
             Plan::Change(id, changes) => self.change_kept(request, id, changes),
             Plan::Join(key, id) => self.join_kept(request, key, id),
             Plan::Detach(key, id, fate) => self.detach_kept(request, key, id, fate),
+            Plan::Keep => self.stay_kept(request),
+            Plan::Move(shift) => self.move_kept(request, shift),
+            Plan::Replace(shift, old, fate) => self.replace_kept(request, shift, old, fate),
         }
     }
 

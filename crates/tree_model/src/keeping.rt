@@ -1,11 +1,12 @@
-ghost use Rattle.std.specs.Prelude.{◌≡◌, ◌<◌, IsSome, IfOk, OnOk, OnErr};
+ghost use Rattle.std.specs.Prelude.{◌≡◌, ◌≢◌, ◌<◌, IsSome, None, IfOk, OnOk, OnErr};
 ghost use Rattle.std.specs.FinMap.{get};
 ghost use Rattle.fs_base.specs.declared.reply.Reply.TheVariants.{Done, Made};
 ghost use Rattle.tree_model.specs.Calls.{keeps};
-ghost use Rattle.tree_model.specs.Making.{added, altered, detached, earlier_reply, fared, linked};
+ghost use Rattle.tree_model.specs.Making.{added, altered, detached, earlier_reply, fared, linked, replaced};
+ghost use Rattle.tree_model.specs.Moving.{moved};
 
 use crate::kept::{Doom, KeptReply};
-use crate::plan::{Child, Fate};
+use crate::plan::{Child, Fate, Shift};
 use crate::setattr::{change_node, touch_node};
 use crate::tree::Tree;
 use fs_base::{Changes, Code, InodeId, Memory, Name, Reply, Request};
@@ -195,6 +196,82 @@ impl Tree {
         match self.fare(id, fate, request.stamp) {
             Ok(()) => {
                 self.entries.remove(&key);
+                Ok(Reply::Done)
+            }
+            Err(e) => {
+                self.kept.put_back(request.client.0, before);
+                Err(e)
+            }
+        }
+    }
+
+    /// Keeps the reply `Done` and nothing else.
+    pub(crate) fn stay_kept(&mut self, request: &Request) -> Result<Reply, Memory>
+        ensures ok { OnOk result (self.new.tree ≡ keeps self.old.tree request.now Done) }
+        ensures reply { IfOk result (λ reply. reply ≡ Done) }
+        ensures config { self.new.config ≡ self.old.config }
+        ensures err { OnErr result (self.new ≡ self.old) }
+    {
+        self.keep_done(request)?;
+        Ok(Reply::Done)
+    }
+
+    /// Moves an entry, all or nothing.
+    fn shift(&mut self, shift: Shift) -> Result<(), Memory>
+        requires { shift.from ≢ shift.to }
+        ensures ok { OnOk result (self.new.tree ≡ moved self.old.tree shift.from shift.to shift.id) }
+        ensures config { self.new.config ≡ self.old.config }
+        ensures err { OnErr result (self.new ≡ self.old) }
+        ensures absent { OnErr result (get self.old.tree.entries shift.to ≡ None) }
+    {
+        let Shift { from, to, id } = shift;
+        self.entries.insert(to, id)?;
+        self.entries.remove(&from);
+        Ok(())
+    }
+
+    /// Moves an entry and puts the reply in, all or nothing.
+    #[tactic(auto, using(crate::proofs::Undo::there_by_id, crate::proofs::Undo::undone_by_id))]
+    pub(crate) fn move_kept(&mut self, request: &Request, shift: Shift) -> Result<Reply, Memory>
+        requires { shift.from ≢ shift.to }
+        ensures ok { OnOk result (self.new.tree ≡ keeps (moved self.old.tree shift.from shift.to shift.id) request.now Done) }
+        ensures reply { IfOk result (λ reply. reply ≡ Done) }
+        ensures config { self.new.config ≡ self.old.config }
+        ensures err { OnErr result (self.new ≡ self.old) }
+    {
+        let before = self.keep_done(request)?;
+        match self.shift(shift) {
+            Ok(()) => Ok(Reply::Done),
+            Err(e) => {
+                self.kept.put_back(request.client.0, before);
+                Err(e)
+            }
+        }
+    }
+
+    /// Moves an entry to where another stood, whose node loses it, and puts the reply in, all or nothing.
+    #[tactic(auto, using(crate::proofs::Undo::there_by_id, crate::proofs::Undo::undone_by_id))]
+    pub(crate) fn replace_kept(
+        &mut self,
+        request: &Request,
+        shift: Shift,
+        old: InodeId,
+        fate: Fate,
+    ) -> Result<Reply, Memory>
+        requires apart { shift.from ≢ shift.to }
+        requires taken { IsSome (get self.old.tree.entries shift.to) }
+        requires there { IsSome (get self.old.tree.nodes old) }
+        ensures ok { OnOk result (self.new.tree ≡ keeps (replaced self.old.tree request.now.stamp shift old fate) request.now Done) }
+        ensures reply { IfOk result (λ reply. reply ≡ Done) }
+        ensures config { self.new.config ≡ self.old.config }
+        ensures err { OnErr result (self.new ≡ self.old) }
+    {
+        let before = self.keep_done(request)?;
+        match self.fare(old, fate, request.stamp) {
+            Ok(()) => {
+                if self.shift(shift).is_err() {
+                    unreachable!()
+                }
                 Ok(Reply::Done)
             }
             Err(e) => {

@@ -9,6 +9,7 @@ mod kept;
 mod linking;
 mod make;
 mod maps;
+mod moving;
 mod names;
 mod new_node;
 mod node;

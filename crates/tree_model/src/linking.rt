@@ -12,7 +12,7 @@ use fs_base::{Code, InodeId, Kind, Limit, Memory, Name, Place, Request};
 use std::alloc::Global;
 
 /// What becomes of a node that loses an entry, by whether it is its last.
-fn fate_of(last: bool, part: &NodePart) -> Fate
+pub(crate) fn fate_of(last: bool, part: &NodePart) -> Fate
     ensures { result ≡ fate_of last part.now }
 {
     if !last {
@@ -160,7 +160,7 @@ impl Tree {
     }
 
     /// Whether no entry lies in a directory.
-    fn is_empty_dir(&self, dir: u64) -> bool
+    pub(crate) fn is_empty_dir(&self, dir: u64) -> bool
         ensures { result ≡ is_empty_dir self.now.tree dir }
     {
         for (key, id) in self.entries.iter() {

@@ -21,6 +21,15 @@ pub enum Fate {
     Goes,
 }
 
+/// An entry on its way from one place to another.
+#[derive(Drop)]
+pub struct Shift {
+    pub from: (u64, Name),
+    pub to: (u64, Name),
+    /// Where it leads.
+    pub id: InodeId,
+}
+
 /// What an update is to do.
 #[derive(Drop)]
 pub enum Plan {
@@ -32,4 +41,10 @@ pub enum Plan {
     Join((u64, Name), InodeId),
     /// The entry, which leads to the node of this id, is taken away.
     Detach((u64, Name), InodeId, Fate),
+    /// The tree stays; the reply is kept.
+    Keep,
+    /// An entry comes from its place to another.
+    Move(Shift),
+    /// The same, where an entry of the node of this id stood, which has lost it.
+    Replace(Shift, InodeId, Fate),
 }
