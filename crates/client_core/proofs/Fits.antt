@@ -15,7 +15,7 @@ use Rattle.client_core.specs.declared.plan.Op.{Op}
 use Rattle.client_core.specs.declared.plan.Op.TheVariants as ops
 use Rattle.fs_base.specs.Config.{Settings}
 use Rattle.path_walk.specs.Requests.{IsRequest}
-use Rattle.tree_model.specs.Calls.{is_built}
+use Rattle.tree_model.specs.Calls.{is_told}
 use Rattle.client_core.specs.Ops.{call_of, request_of, stamp_of, HasBytes}
 use Rattle.client_core.specs.declared.plan.Script.{Script}
 
@@ -119,16 +119,22 @@ op_fits (ops.Mkdir stamp p m l) h are = and_from (time.fits stamp) (made.fits (p
 op_fits (ops.Create stamp p m l) h are = and_from (time.fits stamp) (made.fits (p, (m, l))) (time_fits stamp h.0) (made_fits p m l h.1 are h.2 h.3)
 op_fits (ops.Symlink stamp p target) h are = and_from (time.fits stamp) (place.fits p && text.fits target) (time_fits stamp h.0) (and_from (place.fits p) (text.fits target) (place_fits p h.1 are.0) (text_fits target h.2 are.1))
 op_fits (ops.Setattr stamp p c) h are = and_from (time.fits stamp) (place.fits p && changes.fits c) (time_fits stamp h.0) (and_from (place.fits p) (changes.fits c) (place_fits p h.1 are) (changes_fits c h.2))
+op_fits (ops.Link stamp from to) h are = and_from (time.fits stamp) (place.fits from && place.fits to) (time_fits stamp h.0) (and_from (place.fits from) (place.fits to) (place_fits from h.1 are.0) (place_fits to h.2 are.1))
+op_fits (ops.Unlink stamp p) h are = and_from (time.fits stamp) (place.fits p) (time_fits stamp h.0) (place_fits p h.1 are)
+op_fits (ops.Rmdir stamp p) h are = and_from (time.fits stamp) (place.fits p) (time_fits stamp h.0) (place_fits p h.1 are)
 op_fits (ops.Lookup stamp p) h are = and_from (time.fits stamp) (place.fits p) (time_fits stamp h.0) (place_fits p h.1 are)
 op_fits (ops.Stat stamp p) h are = and_from (time.fits stamp) (place.fits p) (time_fits stamp h.0) (place_fits p h.1 are)
 op_fits (ops.List stamp p) h are = and_from (time.fits stamp) (place.fits p) (time_fits stamp h.0) (place_fits p h.1 are)
 op_fits (ops.Readlink stamp p) h are = and_from (time.fits stamp) (place.fits p) (time_fits stamp h.0) (place_fits p h.1 are)
 
-built : (step : Op) → IsTrue (is_built (call_of step))
+built : (step : Op) → IsTrue (is_told (call_of step))
 built (ops.Mkdir stamp p m l) = refl
 built (ops.Create stamp p m l) = refl
 built (ops.Symlink stamp p target) = refl
 built (ops.Setattr stamp p c) = refl
+built (ops.Link stamp from to) = refl
+built (ops.Unlink stamp p) = refl
+built (ops.Rmdir stamp p) = refl
 built (ops.Lookup stamp p) = refl
 built (ops.Stat stamp p) = refl
 built (ops.List stamp p) = refl

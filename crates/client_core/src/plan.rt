@@ -31,6 +31,22 @@ pub enum Op {
         place: Place,
         changes: Changes,
     },
+    /// Makes a further entry of what stands at a place.
+    Link {
+        stamp: u64,
+        from: Place,
+        to: Place,
+    },
+    /// Takes an entry away that leads to no directory.
+    Unlink {
+        stamp: u64,
+        place: Place,
+    },
+    /// Takes an empty directory away, with its entry.
+    Rmdir {
+        stamp: u64,
+        place: Place,
+    },
     /// What stands at a place.
     Lookup {
         stamp: u64,

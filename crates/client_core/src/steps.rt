@@ -28,9 +28,15 @@ fn texts_are_bytes(step: &Op)
             is_of_bytes(place.text.as_slice());
             is_of_bytes(target.as_slice());
         }
+        Op::Link { from, to, .. } => {
+            is_of_bytes(from.text.as_slice());
+            is_of_bytes(to.text.as_slice());
+        }
         Op::Mkdir { place, .. } => is_of_bytes(place.text.as_slice()),
         Op::Create { place, .. } => is_of_bytes(place.text.as_slice()),
         Op::Setattr { place, .. } => is_of_bytes(place.text.as_slice()),
+        Op::Unlink { place, .. } => is_of_bytes(place.text.as_slice()),
+        Op::Rmdir { place, .. } => is_of_bytes(place.text.as_slice()),
         Op::Lookup { place, .. } => is_of_bytes(place.text.as_slice()),
         Op::Stat { place, .. } => is_of_bytes(place.text.as_slice()),
         Op::List { place, .. } => is_of_bytes(place.text.as_slice()),
@@ -46,6 +52,9 @@ fn stamp_of(step: &Op) -> u64
         Op::Create { stamp, .. } => *stamp,
         Op::Symlink { stamp, .. } => *stamp,
         Op::Setattr { stamp, .. } => *stamp,
+        Op::Link { stamp, .. } => *stamp,
+        Op::Unlink { stamp, .. } => *stamp,
+        Op::Rmdir { stamp, .. } => *stamp,
         Op::Lookup { stamp, .. } => *stamp,
         Op::Stat { stamp, .. } => *stamp,
         Op::List { stamp, .. } => *stamp,
@@ -85,6 +94,12 @@ fn call_of(alloc: Global, step: &Op) -> Result<Call, Memory>
             place: place.try_clone(alloc)?,
             changes: *changes,
         }),
+        Op::Link { from, to, .. } => Ok(Call::Link {
+            from: from.try_clone(alloc)?,
+            to: to.try_clone(alloc)?,
+        }),
+        Op::Unlink { place, .. } => Ok(Call::Unlink(place.try_clone(alloc)?)),
+        Op::Rmdir { place, .. } => Ok(Call::Rmdir(place.try_clone(alloc)?)),
         Op::Lookup { place, .. } => Ok(Call::Lookup(place.try_clone(alloc)?)),
         Op::Stat { place, .. } => Ok(Call::Stat(place.try_clone(alloc)?)),
         Op::List { place, .. } => Ok(Call::List(place.try_clone(alloc)?)),

@@ -1,6 +1,7 @@
 -- The task of any call that is built.
 use Rattle.std.specs.Prelude.{◌≡◌, List}
 use Rattle.fs_base.specs.Config.{Settings}
+use Rattle.fs_base.specs.declared.call.Call.{Call}
 use Rattle.fs_base.specs.declared.call.Request.{Request}
 use Rattle.tree_model.specs.Calls.{effect}
 use Rattle.tree_model.specs.Effects.{Effect}
@@ -9,24 +10,37 @@ use Rattle.path_walk.specs.Areas.{Area}
 use Rattle.path_walk.specs.Footprint.{call_areas}
 use Rattle.op_attr.specs.Attr as attr
 use Rattle.op_create.specs.Create as create
+use Rattle.op_link.specs.Link as link
 use Rattle.meta_task.specs.declared.op.OpTask.{OpTask}
-use Rattle.meta_task.specs.declared.op.OpTask.TheVariants.{Attr, Create}
+use Rattle.meta_task.specs.declared.op.OpTask.TheVariants.{Attr, Create, Link}
+use Rattle.meta_task.specs.declared.op.TaskKind.{TaskKind}
+use Rattle.meta_task.specs.declared.op.TaskKind.TheVariants as kinds
+
+-- the calls that a task does
+abbrev pub IsOfKind : TaskKind → Call → Type 0
+IsOfKind kinds.Attr call = attr.IsAttrCall call
+IsOfKind kinds.Create call = create.IsCreateCall call
+IsOfKind kinds.Link call = link.IsLinkCall call
 
 abbrev pub config_of : OpTask → Settings
 config_of (Attr task) = task.config
 config_of (Create task) = task.config
+config_of (Link task) = task.config
 
 abbrev pub effect_of : OpTask → Tree → Effect
 effect_of (Attr task) = attr.effect_of task
 effect_of (Create task) = create.effect_of task
+effect_of (Link task) = link.effect_of task
 
 abbrev pub areas_of : OpTask → Tree → List Area
 areas_of (Attr task) = attr.areas_of task
 areas_of (Create task) = create.areas_of task
+areas_of (Link task) = link.areas_of task
 
 abbrev pub IsReady : OpTask → Type 0
 IsReady (Attr task) = attr.IsReady task
 IsReady (Create task) = create.IsReady task
+IsReady (Link task) = link.IsReady task
 
 -- a task of the request, before its first step
 pub record IsFirst (C : Settings) (q : Request) (op : OpTask) : Type 0 where

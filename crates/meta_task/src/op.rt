@@ -1,14 +1,16 @@
-ghost use Rattle.std.specs.Prelude.{◌≡◌, [], IfOk, OnOk, IsTrue, true, false};
-ghost use Rattle.tree_model.specs.Calls.{is_built};
+ghost use Rattle.std.specs.Prelude.{◌≡◌, [], IfOk, OnOk, IsTrue};
+ghost use Rattle.tree_model.specs.Calls.{is_told};
 ghost use Rattle.path_walk.specs.Owed.{HasStepped};
 ghost use Rattle.path_walk.specs.Requests.{IsRequest};
 ghost use Rattle.op_attr.specs.Attr.{IsAttrCall};
 ghost use Rattle.op_create.specs.Create.{IsCreateCall};
-ghost use Rattle.meta_task.specs.Ops.{IsFirst, IsReady, config_of, effect_of, areas_of};
+ghost use Rattle.op_link.specs.Link.{IsLinkCall};
+ghost use Rattle.meta_task.specs.Ops.{IsFirst, IsReady, IsOfKind, config_of, effect_of, areas_of};
 
 use fs_base::{Call, Config, Memory, Request};
 use op_attr::AttrTask;
 use op_create::CreateTask;
+use op_link::LinkTask;
 use std::alloc::Global;
 use txn_task::{Answer, OpStep, Txn};
 
@@ -19,19 +21,30 @@ pub enum OpTask {
     Attr(AttrTask),
     /// mkdir, create or symlink.
     Create(CreateTask),
+    /// link, unlink or rmdir.
+    Link(LinkTask),
 }
 
-/// Whether the call makes a node.
-fn makes_node(call: &Call) -> bool
-    requires { IsTrue (is_built call.now) }
-    ensures makes { result ≡ true → IsCreateCall call.now }
-    ensures other { result ≡ false → IsAttrCall call.now }
+/// Which of these tasks does a call.
+#[derive(Clone, Copy, Debug, PartialEq, Eq)]
+enum TaskKind {
+    Attr,
+    Create,
+    Link,
+}
+
+fn kind_of(call: &Call) -> TaskKind
+    requires { IsTrue (is_told call.now) }
+    ensures { IsOfKind result call.now }
 {
     match call {
-        Call::Mkdir { .. } => true,
-        Call::Create { .. } => true,
-        Call::Symlink { .. } => true,
-        _ => false,
+        Call::Mkdir { .. } => TaskKind::Create,
+        Call::Create { .. } => TaskKind::Create,
+        Call::Symlink { .. } => TaskKind::Create,
+        Call::Link { .. } => TaskKind::Link,
+        Call::Unlink(_) => TaskKind::Link,
+        Call::Rmdir(_) => TaskKind::Link,
+        _ => TaskKind::Attr,
     }
 }
 
@@ -53,18 +66,26 @@ fn create(alloc: Global, request: &Request, config: &Config) -> Result<OpTask, M
     Ok(OpTask::Create(task))
 }
 
+fn link(alloc: Global, request: &Request, config: &Config) -> Result<OpTask, Memory>
+    requires valid { IsRequest config.now request.now }
+    requires call { IsLinkCall request.now.call }
+    ensures { IfOk result (λ op. IsFirst config.now request.now op) }
+{
+    let task = LinkTask::new(alloc, request, config)?;
+    Ok(OpTask::Link(task))
+}
+
 impl OpTask {
     /// The operation of a request, before its first step.
     pub fn new(alloc: Global, request: &Request, config: &Config) -> Result<OpTask, Memory>
         requires { IsRequest config.now request.now }
         ensures { IfOk result (λ op. IsFirst config.now request.now op) }
     {
-        if makes_node(&request.call) {
-            let op = create(alloc, request, config)?;
-            return Ok(op);
+        match kind_of(&request.call) {
+            TaskKind::Attr => attr(alloc, request, config),
+            TaskKind::Create => create(alloc, request, config),
+            TaskKind::Link => link(alloc, request, config),
         }
-        let op = attr(alloc, request, config)?;
-        Ok(op)
     }
 
     /// The next step, once the answer is among the reads. Once memory ran out the answer is want of memory from then on.
@@ -81,6 +102,10 @@ impl OpTask {
                 Ok(step)
             }
             OpTask::Create(task) => {
+                let step = task.next(alloc, answer, txn)?;
+                Ok(step)
+            }
+            OpTask::Link(task) => {
                 let step = task.next(alloc, answer, txn)?;
                 Ok(step)
             }

@@ -1,5 +1,6 @@
 -- What the record of a plan's run owes.
 use Rattle.std.specs.Prelude.{◌≡◌, ℕ, ◌+◌, ◌<◌, ◌==◌, ◌&&◌, List, [], ◌∷◌, ◌++◌, length, map, count_by, Bool, false}
+use Rattle.std.specs.FinMap.{len}
 use Rattle.conflict_sets.specs.Reads.{Agrees}
 use Rattle.fs_base.specs.Config.{Settings}
 use Rattle.fs_base.specs.declared.reply.Reply.{Reply}
@@ -49,16 +50,23 @@ abbrev pub conflicts_in : List Listed → ℕ
 conflicts_in [] = 0
 conflicts_in (listed ∷ rest) = length listed.receipt.conflicts + conflicts_in rest
 
--- one receipt an operation; no call that is built waits for its deletion, and no server stops
-abbrev pub summary_of : List Listed → List Entry → Summary
-summary_of receipts entries =
+-- one receipt an operation, and no server stops
+abbrev pub counts_of : List Listed → List Entry → ℕ → Summary
+counts_of receipts entries waiting =
     record {
       ops = length receipts;
       commits = length entries;
       conflicts = conflicts_in receipts;
       stops = 0;
-      waiting = 0;
+      waiting = waiting;
     }
+
+-- the files that are being deleted once all entries are made
+abbrev pub waiting_in : Settings → List Entry → ℕ
+waiting_in C entries = len (tree_at C entries (length entries)).doomed
+
+abbrev pub summary_of : Settings → List Listed → List Entry → Summary
+summary_of C receipts entries = counts_of receipts entries (waiting_in C entries)
 
 -- ---- the record
 
@@ -72,4 +80,4 @@ pub record IsRight (plan : Plan) (run : Record) : Type 0 where
   -- each operation has its receipt, and each entry exactly one that names it
   pub sections : AreSections plan.config plan.attempts run.entries 0 plan.clients run.receipts
   pub named : (place : ℕ) → place < length run.entries → count_by (names_place place) run.receipts ≡ 1
-  pub summary : run.summary ≡ summary_of run.receipts run.entries
+  pub summary : run.summary ≡ summary_of plan.config run.receipts run.entries

@@ -10,5 +10,5 @@ mod text;
 
 pub use replies::write_replies;
 pub use run::{Listed, Record, Summary};
-pub use summary::summary_of;
+pub use summary::counts_of;
 pub use text::text_of;

@@ -1,20 +1,20 @@
 ghost use Rattle.std.specs.Prelude.{◌≡◌, ℕ, ◌<◌, ◌^◌};
-ghost use Rattle.run_record.specs.Right.{conflicts_in, summary_of};
+ghost use Rattle.run_record.specs.Right.{conflicts_in, counts_of};
 
 use crate::run::{Listed, Summary};
 use txn_task::Entry;
 
-/// The counts of a run in which no call waits and no server stops.
-pub fn summary_of(receipts: &[Listed], entries: &[Entry]) -> Summary
+/// The counts of a run in which no server stops and so many files are being deleted at its end.
+pub fn counts_of(receipts: &[Listed], entries: &[Entry], waiting: u64) -> Summary
     requires { conflicts_in receipts.now < 2 ^ 64 }
-    ensures { result ≡ summary_of receipts.now entries.now }
+    ensures { result ≡ counts_of receipts.now entries.now waiting }
 {
     Summary {
         ops: receipts.len() as u64,
         commits: entries.len() as u64,
         conflicts: conflicts_in(receipts),
         stops: 0,
-        waiting: 0,
+        waiting,
     }
 }
 

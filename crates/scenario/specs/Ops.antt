@@ -24,6 +24,7 @@ named name (row ∷ rows) = if bytes_eq name row.0 then Some row.1 else named na
 abbrev pub kind_table : List (List ℕ × OpKind)
 kind_table =
     (codes "mkdir", kinds.Mkdir) ∷ (codes "create", kinds.Create) ∷ (codes "symlink", kinds.Symlink) ∷ (codes "setattr", kinds.Setattr)
+    ∷ (codes "link", kinds.Link) ∷ (codes "unlink", kinds.Unlink) ∷ (codes "rmdir", kinds.Rmdir)
     ∷ (codes "lookup", kinds.Lookup) ∷ (codes "stat", kinds.Stat) ∷ (codes "list", kinds.List) ∷ (codes "readlink", kinds.Readlink) ∷ []
 
 abbrev pub kind_of : List ℕ → Option OpKind
@@ -35,6 +36,9 @@ own_keys kinds.Mkdir = codes "mode" ∷ codes "chunk" ∷ codes "stripe" ∷ []
 own_keys kinds.Create = codes "mode" ∷ codes "chunk" ∷ codes "stripe" ∷ []
 own_keys kinds.Symlink = codes "target" ∷ []
 own_keys kinds.Setattr = codes "mode" ∷ codes "uid" ∷ codes "gid" ∷ codes "atime" ∷ codes "mtime" ∷ []
+own_keys kinds.Link = codes "path2" ∷ codes "dir2" ∷ []
+own_keys kinds.Unlink = []
+own_keys kinds.Rmdir = []
 own_keys kinds.Lookup = []
 own_keys kinds.Stat = []
 own_keys kinds.List = []
@@ -50,11 +54,18 @@ short_text name d = do
   fits ← need (nat_le (length text) 65535) not_built
   Ok text
 
-abbrev pub place_of : Data → Result Place Broken
-place_of d = do
-  base ← number_or (codes "dir") (2 ^ 36) 0 d
-  text ← short_text (codes "path") d
+-- a base, which is the root where none is given, and a path's text
+abbrev pub place_at : List ℕ → List ℕ → Data → Result Place Broken
+place_at dir path d = do
+  base ← number_or dir (2 ^ 36) 0 d
+  text ← short_text path d
   Ok (record { base = base; text = text })
+
+abbrev pub first_place : Data → Result Place Broken
+first_place d = place_at (codes "dir") (codes "path") d
+
+abbrev pub second_place : Data → Result Place Broken
+second_place d = place_at (codes "dir2") (codes "path2") d
 
 -- a chunk and a stripe are given both or neither
 abbrev pub both : Option ℕ → Option ℕ → Result (Option DefaultLayout) Broken
@@ -90,6 +101,9 @@ op_with kinds.Mkdir stamp place d = making_of 493 d >>= λ made. Ok (ops.Mkdir s
 op_with kinds.Create stamp place d = making_of 420 d >>= λ made. Ok (ops.Create stamp place made.mode made.layout)
 op_with kinds.Symlink stamp place d = short_text (codes "target") d >>= λ target. Ok (ops.Symlink stamp place target)
 op_with kinds.Setattr stamp place d = changes_of d >>= λ changes. Ok (ops.Setattr stamp place changes)
+op_with kinds.Link stamp place d = second_place d >>= λ to. Ok (ops.Link stamp place to)
+op_with kinds.Unlink stamp place d = Ok (ops.Unlink stamp place)
+op_with kinds.Rmdir stamp place d = Ok (ops.Rmdir stamp place)
 op_with kinds.Lookup stamp place d = Ok (ops.Lookup stamp place)
 op_with kinds.Stat stamp place d = Ok (ops.Stat stamp place)
 op_with kinds.List stamp place d = Ok (ops.List stamp place)
@@ -101,5 +115,5 @@ op_of d = do
   kind ← ok_or (kind_of name) not_built
   keys ← need (has_only (keys_of kind) d) not_built
   stamp ← number_or (codes "time") (2 ^ 53) 0 d
-  place ← place_of d
+  place ← first_place d
   op_with kind stamp place d

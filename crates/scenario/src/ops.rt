@@ -5,7 +5,7 @@ ghost use Rattle.fs_base.specs.Gives.{Gives};
 ghost use Rattle.serde_json.specs.View.{view};
 ghost use Rattle.scenario.specs.Broken.{broken_of, not_built};
 ghost use Rattle.scenario.specs.Numbers.{number_or};
-ghost use Rattle.scenario.specs.Ops.{both, changes_of, keys_of, kind_of, layout_of, making_of, op_of, op_with, place_of, short_text};
+ghost use Rattle.scenario.specs.Ops.{both, changes_of, keys_of, kind_of, layout_of, making_of, op_of, op_with, place_at, short_text};
 ghost use Rattle.client_core.specs.Plans.{IsChanges, IsLayout, IsOp, IsPlace};
 
 use crate::broken::{Broken, ScenarioError, need, not_built};
@@ -23,6 +23,9 @@ pub enum OpKind {
     Create,
     Symlink,
     Setattr,
+    Link,
+    Unlink,
+    Rmdir,
     Lookup,
     Stat,
     List,
@@ -46,7 +49,7 @@ pub fn op_of(alloc: Global, value: &Value) -> Result<Op, ScenarioError>
     let kind = kind_of(name)?;
     need(has_only(value, keys_of(kind)), not_built())?;
     let stamp = number_or(value, "time", 1 << 53, 0)?;
-    let place = place_of(alloc, value)?;
+    let place = place_at(alloc, value, "dir", "path")?;
     op_with(alloc, kind, stamp, place, value)
 }
 
@@ -58,6 +61,9 @@ fn kind_of(name: &str) -> Result<OpKind, Broken>
         "create" => Ok(OpKind::Create),
         "symlink" => Ok(OpKind::Symlink),
         "setattr" => Ok(OpKind::Setattr),
+        "link" => Ok(OpKind::Link),
+        "unlink" => Ok(OpKind::Unlink),
+        "rmdir" => Ok(OpKind::Rmdir),
         "lookup" => Ok(OpKind::Lookup),
         "stat" => Ok(OpKind::Stat),
         "list" => Ok(OpKind::List),
@@ -76,6 +82,8 @@ fn keys_of(kind: OpKind) -> &'static [&'static str]
         OpKind::Setattr => &[
             "op", "time", "path", "dir", "mode", "uid", "gid", "atime", "mtime",
         ],
+        OpKind::Link => &["op", "time", "path", "dir", "path2", "dir2"],
+        OpKind::Unlink | OpKind::Rmdir => &["op", "time", "path", "dir"],
         OpKind::Lookup | OpKind::Stat | OpKind::List | OpKind::Readlink => &[
             "op", "time", "path", "dir",
         ],
@@ -92,12 +100,13 @@ fn short_text(alloc: Global, value: &Value, name: &str) -> Result<Text, Scenario
     Ok(Text::from_slice(alloc, text.as_bytes())?)
 }
 
-fn place_of(alloc: Global, value: &Value) -> Result<Place, ScenarioError>
-    ensures gives { Gives broken_of (λ place. place) result (place_of (view value.now)) }
+/// The place whose base and path stand at these keys.
+fn place_at(alloc: Global, value: &Value, dir: &str, path: &str) -> Result<Place, ScenarioError>
+    ensures gives { Gives broken_of (λ place. place) result (place_at dir.now path.now (view value.now)) }
     ensures valid { IfOk result (λ place. IsPlace place) }
 {
-    let base = number_or(value, "dir", 1 << 36, 0)?;
-    let text = short_text(alloc, value, "path")?;
+    let base = number_or(value, dir, 1 << 36, 0)?;
+    let text = short_text(alloc, value, path)?;
     Ok(Place {
         base: InodeId::new(base),
         text,
@@ -181,6 +190,9 @@ fn op_with(
         OpKind::Create => create_with(stamp, place, value),
         OpKind::Symlink => symlink_with(alloc, stamp, place, value),
         OpKind::Setattr => setattr_with(stamp, place, value),
+        OpKind::Link => link_with(alloc, stamp, place, value),
+        OpKind::Unlink => Ok(Op::Unlink { stamp, place }),
+        OpKind::Rmdir => Ok(Op::Rmdir { stamp, place }),
         OpKind::Lookup => Ok(Op::Lookup { stamp, place }),
         OpKind::Stat => Ok(Op::Stat { stamp, place }),
         OpKind::List => Ok(Op::List { stamp, place }),
@@ -244,4 +256,14 @@ fn setattr_with(stamp: u64, place: Place, value: &Value) -> Result<Op, ScenarioE
         place,
         changes,
     })
+}
+
+fn link_with(alloc: Global, stamp: u64, from: Place, value: &Value) -> Result<Op, ScenarioError>
+    requires stamp { stamp < 2 ^ 53 }
+    requires place { IsPlace from }
+    ensures gives { Gives broken_of (λ op. op) result (op_with OpKind.Link stamp from (view value.now)) }
+    ensures valid { IfOk result (λ op. IsOp op) }
+{
+    let to = place_at(alloc, value, "dir2", "path2")?;
+    Ok(Op::Link { stamp, from, to })
 }

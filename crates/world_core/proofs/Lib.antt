@@ -2,6 +2,7 @@ pub mod Ahead
 pub mod Calls
 pub mod Closing
 pub mod Counting
+pub mod DoomedRows
 pub mod Ends
 pub mod EventLaws
 pub mod Growth
@@ -12,3 +13,4 @@ pub mod Seating
 pub mod Steps
 pub mod Taking
 pub mod Tasks
+pub mod Waiting

@@ -224,7 +224,7 @@ named_once C attempts journal seats distinct seated ended place l =
 -- ---- the record
 
 pub right_record : (w : WorldView) (run : Record) → IsSoundJournal w.config (entries_of w.objects.store.journal) → AreDistinct (scripts_of w.seats) → AreSeated w.config w.attempts (entries_of w.objects.store.journal) w.seats → HaveEnded w.seats
-    → run.config ≡ w.config → run.clients ≡ map (λ (script : Script). script.id) (scripts_of w.seats) → run.receipts ≡ receipts_in w.seats → run.entries ≡ entries_of w.objects.store.journal → run.summary ≡ summary_of run.receipts run.entries
+    → run.config ≡ w.config → run.clients ≡ map (λ (script : Script). script.id) (scripts_of w.seats) → run.receipts ≡ receipts_in w.seats → run.entries ≡ entries_of w.objects.store.journal → run.summary ≡ summary_of w.config run.receipts run.entries
     → IsRight (plan_of w) run
 right_record w run s distinct seated ended config clients receipts entries summary =
     let C : Settings = w.config in

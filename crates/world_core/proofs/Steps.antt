@@ -63,6 +63,12 @@ op_fits (ops.Mkdir stamp place mode layout) h = let b : place.base < 2 ^ 36 = h.
 op_fits (ops.Create stamp place mode layout) h = let b : place.base < 2 ^ 36 = h.1.base_below in omega arith
 op_fits (ops.Symlink stamp place target) h = let b : place.base < 2 ^ 36 = h.1.base_below in omega arith
 op_fits (ops.Setattr stamp place changes) h = let b : place.base < 2 ^ 36 = h.1.base_below in omega arith
+op_fits (ops.Link stamp from to) h =
+    let b : from.base < 2 ^ 36 = h.1.base_below in
+    let c : to.base < 2 ^ 36 = h.2.base_below in
+    (omega arith, omega arith)
+op_fits (ops.Unlink stamp place) h = let b : place.base < 2 ^ 36 = h.1.base_below in omega arith
+op_fits (ops.Rmdir stamp place) h = let b : place.base < 2 ^ 36 = h.1.base_below in omega arith
 op_fits (ops.Lookup stamp place) h = let b : place.base < 2 ^ 36 = h.1.base_below in omega arith
 op_fits (ops.Stat stamp place) h = let b : place.base < 2 ^ 36 = h.1.base_below in omega arith
 op_fits (ops.List stamp place) h = let b : place.base < 2 ^ 36 = h.1.base_below in omega arith

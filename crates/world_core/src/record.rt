@@ -1,15 +1,17 @@
 //! From a world to its record.
 
 ghost use Rattle.std.specs.Prelude.{◌≡◌, ◌<◌, ◌++◌, ◌^◌, map, IfOk, OnOk};
-ghost use Rattle.run_record.specs.Right.{conflicts_in, summary_of as counts_of};
+ghost use Rattle.run_record.specs.Right.{conflicts_in, summary_of, waiting_in};
 ghost use Rattle.request_run.specs.Entries.{entries_of};
+ghost use Rattle.request_run.specs.Sound.{IsOpen};
 ghost use Rattle.world_core.specs.World.{receipts_in, scripts_of};
 
 use crate::seats::Seat;
 use fs_base::{ClientId, Config, Items, Memory};
 use kv_store::KvState;
 use meta_task::MetaEntry;
-use run_record::{Listed, Record, summary_of};
+use request_run::sound_store;
+use run_record::{Listed, Record, counts_of};
 use std::alloc::Global;
 use txn_task::Entry;
 
@@ -63,6 +65,23 @@ fn entries(alloc: Global, journal: Items<MetaEntry>) -> Result<Items<Entry>, Mem
     Ok(entries)
 }
 
+/// How many files are being deleted, once all entries are made.
+///
+/// Should their rows come to 2^32 - 1, it would answer want of memory; a journal has 200,000 entries at most.
+fn waiting_in(store: &KvState<MetaEntry>) -> Result<u64, Memory>
+    requires { IsOpen store.now }
+    ensures { IfOk result (λ waiting. waiting ≡ waiting_in store.now.config (entries_of store.now.journal)) }
+{
+    sound_store(store);
+    let from = [b'G', b'C', b'O', b'L'];
+    let to = [b'G', b'C', b'O', b'M'];
+    let rows = store.range_at(store.front(), from.as_slice(), to.as_slice(), u32::MAX)?;
+    if rows.len() >= u32::MAX as usize {
+        return Err(Memory);
+    }
+    Ok(rows.len() as u64)
+}
+
 /// What is kept of a run.
 pub(crate) fn record_of(
     alloc: Global,
@@ -70,18 +89,21 @@ pub(crate) fn record_of(
     store: KvState<MetaEntry>,
     seats: Vec<Seat>,
 ) -> Result<Record, Memory>
-    requires { conflicts_in (receipts_in seats.items) < 2 ^ 64 }
+    requires few { conflicts_in (receipts_in seats.items) < 2 ^ 64 }
+    requires open { IsOpen store }
+    requires config { store.config ≡ config }
     ensures config { IfOk result (λ run. run.config ≡ config) }
     ensures clients { IfOk result (λ run. run.clients ≡ map (λ script. script.id) (scripts_of seats.items)) }
     ensures receipts { IfOk result (λ run. run.receipts ≡ receipts_in seats.items) }
     ensures entries { IfOk result (λ run. run.entries ≡ entries_of store.journal) }
-    ensures summary { IfOk result (λ run. run.summary ≡ counts_of run.receipts run.entries) }
+    ensures summary { IfOk result (λ run. run.summary ≡ summary_of config run.receipts run.entries) }
 {
     let clients = ids(alloc, seats.as_slice())?;
+    let waiting = waiting_in(&store)?;
     let receipts = receipts(alloc, seats)?;
     let (_opening, journal) = store.into_parts();
     let entries = entries(alloc, journal)?;
-    let summary = summary_of(receipts.as_slice(), entries.as_slice());
+    let summary = counts_of(receipts.as_slice(), entries.as_slice(), waiting);
     Ok(Record {
         config,
         clients,

@@ -3,6 +3,7 @@ use Rattle.path_walk.specs.Owed.{HasStepped}
 use Rattle.meta_task.specs.Ops.{config_of, areas_of, effect_of}
 use Rattle.op_attr.specs.Attr as attr
 use Rattle.op_create.specs.Create as create
+use Rattle.op_link.specs.Link as link
 use Rattle.meta_task.specs.declared.op.OpTask.{OpTask}
 use Rattle.meta_task.proofs.op.OpTask.next.Goals as goal
 
@@ -14,3 +15,8 @@ pub returns-in_ok-step-in-Create-clause-step : goal.returns-in_ok-step-in-Create
 returns-in_ok-step-in-Create-clause-step c =
     subst (λ (o : OpTask). HasStepped (config_of o) (areas_of o) (create.areas_of c.next-in-Create.new.self) (effect_of o) (create.effect_of c.next-in-Create.new.self) c.args.txn.now c.next-in-Create.new.txn c.in_ok-step-in-Create.step) (sym c.in-Create.is)
     c.in_ok-step-in-Create.ensures.step
+
+pub returns-in_ok-step-in-Link-clause-step : goal.returns-in_ok-step-in-Link-clause-step
+returns-in_ok-step-in-Link-clause-step c =
+    subst (λ (o : OpTask). HasStepped (config_of o) (areas_of o) (link.areas_of c.next-in-Link.new.self) (effect_of o) (link.effect_of c.next-in-Link.new.self) c.args.txn.now c.next-in-Link.new.txn c.in_ok-step-in-Link.step) (sym c.in-Link.is)
+    c.in_ok-step-in-Link.ensures.step
