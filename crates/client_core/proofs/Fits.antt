@@ -15,7 +15,7 @@ use Rattle.client_core.specs.declared.plan.Op.{Op}
 use Rattle.client_core.specs.declared.plan.Op.TheVariants as ops
 use Rattle.fs_base.specs.Config.{Settings}
 use Rattle.path_walk.specs.Requests.{IsRequest}
-use Rattle.tree_model.specs.Calls.{is_told}
+use Rattle.tree_model.specs.Calls.{is_built}
 use Rattle.client_core.specs.Ops.{call_of, request_of, stamp_of, HasBytes}
 use Rattle.client_core.specs.declared.plan.Script.{Script}
 
@@ -127,7 +127,7 @@ op_fits (ops.Stat stamp p) h are = and_from (time.fits stamp) (place.fits p) (ti
 op_fits (ops.List stamp p) h are = and_from (time.fits stamp) (place.fits p) (time_fits stamp h.0) (place_fits p h.1 are)
 op_fits (ops.Readlink stamp p) h are = and_from (time.fits stamp) (place.fits p) (time_fits stamp h.0) (place_fits p h.1 are)
 
-built : (step : Op) → IsTrue (is_told (call_of step))
+built : (step : Op) → IsTrue (is_built (call_of step))
 built (ops.Mkdir stamp p m l) = refl
 built (ops.Create stamp p m l) = refl
 built (ops.Symlink stamp p target) = refl

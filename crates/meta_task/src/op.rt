@@ -1,5 +1,5 @@
 ghost use Rattle.std.specs.Prelude.{◌≡◌, [], IfOk, OnOk, IsTrue};
-ghost use Rattle.tree_model.specs.Calls.{is_told};
+ghost use Rattle.tree_model.specs.Calls.{is_built};
 ghost use Rattle.path_walk.specs.Owed.{HasStepped};
 ghost use Rattle.path_walk.specs.Requests.{IsRequest};
 ghost use Rattle.op_attr.specs.Attr.{IsAttrCall};
@@ -34,7 +34,7 @@ enum TaskKind {
 }
 
 fn kind_of(call: &Call) -> TaskKind
-    requires { IsTrue (is_told call.now) }
+    requires { IsTrue (is_built call.now) }
     ensures { IsOfKind result call.now }
 {
     match call {

@@ -15,7 +15,7 @@ use Rattle.fs_base.specs.declared.reply.Reply.{Reply}
 use Rattle.fs_base.specs.declared.reply.Reply.TheVariants.{Refused}
 use Rattle.key_schema.specs.declared.key.Key.{Key}
 use Rattle.tree_model.specs.declared.kept.KeptReply.{KeptReply}
-use Rattle.tree_model.specs.Calls.{apply, is_told, is_query}
+use Rattle.tree_model.specs.Calls.{apply, is_built, is_query}
 use Rattle.tree_model.specs.Effects.{settled_by}
 use Rattle.tree_model.specs.Tree.{Tree, new_tree}
 use Rattle.txn_task.specs.declared.messages.Entry.{Entry}
@@ -78,7 +78,7 @@ same_listed a b client fronts receipt text =
 
 -- ---- an operation's call is built, and its number is new
 
-built : (step : Op) → IsTrue (is_told (call_of step))
+built : (step : Op) → IsTrue (is_built (call_of step))
 built (ops.Mkdir stamp p m l) = refl
 built (ops.Create stamp p m l) = refl
 built (ops.Symlink stamp p target) = refl

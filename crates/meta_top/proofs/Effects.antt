@@ -14,7 +14,7 @@ use Rattle.tree_model.specs.declared.node.NodePart.{NodePart}
 use Rattle.tree_model.specs.declared.node.NodePart.TheVariants.{Dir, File, Link}
 use Rattle.tree_model.specs.declared.walk.Walked.{Walked}
 use Rattle.tree_model.specs.declared.walk.Walked.TheVariants.{At, AtParent, NoName, Stopped}
-use Rattle.tree_model.specs.Calls.{effect_of, is_told, is_query}
+use Rattle.tree_model.specs.Calls.{effect_of, is_built, is_query}
 use Rattle.tree_model.specs.Effects.{Effect, Leaves, Makes, Settles, refuses, on_path}
 use Rattle.tree_model.specs.Tree.{Tree, next_at}
 use Rattle.tree_model.specs.Creating.{make, make_at, add_child, add_in, unless_there, is_layout, new_dir, new_file, new_link}
@@ -81,7 +81,7 @@ module _ (C : Settings) (T : Tree) (server stamp : ℕ) (node : NewNode) where
 unbuilt : {P : Type 0} → false ≡ true → P
 unbuilt e = absurd (cc)
 
-pub update_refuses : (C : Settings) (T : Tree) (q : Request) (call : Call) → IsTrue (is_told call) → is_query call ≡ false → Refusing (effect_of C T q call)
+pub update_refuses : (C : Settings) (T : Tree) (q : Request) (call : Call) → IsTrue (is_built call) → is_query call ≡ false → Refusing (effect_of C T q call)
 update_refuses C T q (calls.Mkdir place mode layout) built is = makes C T q.server q.stamp (new_dir mode layout) place
 update_refuses C T q (calls.Create place mode layout) built is = makes C T q.server q.stamp (new_file mode layout) place
 update_refuses C T q (calls.Symlink place target) built is =

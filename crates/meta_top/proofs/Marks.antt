@@ -7,7 +7,7 @@ use Rattle.fs_base.specs.declared.call.Request.{Request}
 use Rattle.fs_base.specs.declared.reply.Reply.{Reply}
 use Rattle.fs_base.specs.declared.reply.Reply.TheVariants.{Refused, Settled}
 use Rattle.tree_model.specs.declared.kept.KeptReply.{KeptReply}
-use Rattle.tree_model.specs.Calls.{effect, apply, is_told, is_query, settle}
+use Rattle.tree_model.specs.Calls.{effect, apply, is_built, is_query, settle}
 use Rattle.tree_model.specs.Effects.{Effect, Leaves, Makes, Settles}
 use Rattle.tree_model.specs.Tree.{Tree}
 use Rattle.tree_model.proofs.ApplyLaws.{apply_new}
@@ -25,7 +25,7 @@ kept_as q reply = record { number = q.number; reply = reply }
 
 -- ---- a built call does the same whatever length is settled
 
-pub length_free : (C : Settings) (T : Tree) (q : Request) (settled : ℕ) → IsTrue (is_told q.call) → is_query q.call ≡ false → IsNewIn T q → apply C T q settled ≡ apply C T q 0
+pub length_free : (C : Settings) (T : Tree) (q : Request) (settled : ℕ) → IsTrue (is_built q.call) → is_query q.call ≡ false → IsNewIn T q → apply C T q settled ≡ apply C T q 0
 length_free C T q settled built update new = apply_new C T q settled new ∙ (same (effect C T q) (update_refuses C T q q.call built update) ∙ sym (apply_new C T q 0 new))
   where
     same : (f : Effect) → Refusing f → settle T q settled f ≡ settle T q 0 f
@@ -39,7 +39,7 @@ never : (b : Bool) → cond b false false ≡ false
 never true = refl
 never false = refl
 
-pub told_mark : (C : Settings) (T : Tree) (q : Request) (reply : Reply) → IsTrue (is_told q.call) → IsNewIn T q → apply C T q 0 ≡ (T, reply) → commits q.call reply ≡ false
+pub told_mark : (C : Settings) (T : Tree) (q : Request) (reply : Reply) → IsTrue (is_built q.call) → IsNewIn T q → apply C T q 0 ≡ (T, reply) → commits q.call reply ≡ false
 told_mark C T q reply built new is = here (is_query q.call) refl
   where
     refused : (f : Effect) → Refusing f → settle T q 0 f ≡ (T, reply) → commits q.call reply ≡ false

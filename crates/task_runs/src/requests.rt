@@ -9,7 +9,7 @@ use meta_task::MetaTask;
 use row_records::{call_read, call_write};
 use std::alloc::Global;
 use test_support::call_of;
-use tree_model::is_told;
+use tree_model::is_built;
 
 /// The call with its stamp, as it is read from the bytes that are written of it. So its numbers are in their ranges.
 fn ranged(alloc: Global, stamp: u64, call: &Call) -> Result<(u64, Call)>
@@ -32,7 +32,7 @@ fn taken(
     ensures { IfOk result (λ request. IsRequest config.now request) }
 {
     let (stamp, call) = stamped;
-    if server >= config.servers() || number == 0 || !is_told(&call) {
+    if server >= config.servers() || number == 0 || !is_built(&call) {
         bail!("no server takes this request");
     }
     Ok(Request {
