@@ -3,13 +3,12 @@ use Rattle.std.proofs.Common.{◌≡◌, ◌≢◌, ℕ, zero, suc, ◌+◌, ◌
 use Rattle.std.specs.Prelude.{slice_get}
 use Rattle.std.specs.List.{list_any}
 use Rattle.std.proofs.lemmas.Bool.{cases_eq}
-use Rattle.std.proofs.lemmas.Bool.Decides.{nat_tests}
 use Rattle.std.proofs.lemmas.Option.{slice_get_within, same_Some}
 use Rattle.fs_base.specs.Config.{Settings}
 use Rattle.txn_task.specs.declared.messages.Entry.{Entry}
 use Rattle.client_core.specs.Client.{ClientView, end_call, has_ended}
 use Rattle.client_core.specs.declared.messages.ClientAsk.TheVariants as client_asks
-use Rattle.client_core.specs.declared.plan.Op.{Op}
+use Rattle.fs_base.specs.declared.call.Request.{Request}
 use Rattle.txn_task.specs.declared.outcome.Outcome.{Outcome}
 use Rattle.txn_task.specs.declared.outcome.Receipt.{Receipt}
 use Rattle.run_record.specs.declared.run.Listed.{Listed}
@@ -22,13 +21,14 @@ use Rattle.world_core.specs.World.{AllSeats, AreTurns, HaveEnded, IsOpTurn, IsOp
 use Rattle.world_core.specs.declared.world.Turn.{Turn}
 use Rattle.world_core.specs.declared.world.Turn.TheVariants as turns
 use Rattle.world_core.specs.declared.seats.Seat.{Seat}
+use Rattle.client_core.proofs.Ending.{ended_is, has_ended_by}
 use Rattle.world_core.proofs.Seating.{script_at, seat_there, slice_get-set_other, slice_get-set_same}
 
 -- ---- one turn
 
-pub end_op : (c : ClientView) (server : ℕ) (outcome : Outcome) (o : Option Op) (receipt : Receipt) → client_asks.CallEnd (receipt ∷ []) true ≡ (end_call c server outcome o).1 → (end_call c server outcome o).0.op ≡ c.op + 1
+pub end_op : (c : ClientView) (server : ℕ) (outcome : Outcome) (o : Option Request) (receipt : Receipt) → client_asks.CallEnd (receipt ∷ []) true ≡ (end_call c server outcome o).1 → (end_call c server outcome o).0.op ≡ c.op + 1
 end_op c server outcome None receipt e = absurd (cc)
-end_op c server outcome (Some step) receipt e = refl
+end_op c server outcome (Some request) receipt e = refl
 
 pub there : (seats : List Seat) (k : ℕ) → k < length seats → (seat : Seat) × (slice_get seats k ≡ Some seat)
 there [] k l = absurd (omega arith)
@@ -118,7 +118,7 @@ pub ahead_more : (rounds c : ℕ) (seats : List Seat) → length seats ≤ c →
 ahead_more rounds c seats all h k seat at = let l : k < length seats = slice_get_within seats k seat at in (h k seat at).1 (omega arith)
 
 all_ended : (c : ClientView) → has_ended c ≡ true → length c.script.ops ≤ c.op
-all_ended c ended = grind (arith, nat_tests)
+all_ended c ended = (ended_is c ended).1
 
 -- the next client had nothing left
 pub ahead_idle : (rounds c : ℕ) (seats : List Seat) → ((seat : Seat) → slice_get seats c ≡ Some seat → has_ended seat.client ≡ true) → AreAheadTo rounds c seats → AreAheadTo rounds (c + 1) seats
@@ -189,10 +189,10 @@ pub have_ended : (seats : List Seat) → has_left seats ≡ false → HaveEnded 
 have_ended seats none k seat at = not_false (has_ended seat.client) (none_any (λ s. not (has_ended s.client)) seats none k seat at)
 
 -- where a request is under way its operation is there
-idle : (C : Settings) (attempts : ℕ) (journal : List Entry) (script : Script) (op : ℕ) (receipts : List Listed) (sent : Bool) (work : Option Work) → IsWorking C attempts journal script op receipts sent work → length script.ops ≤ op → sent ≡ false
-idle C attempts journal script op receipts false work h all = refl
-idle C attempts journal script op receipts true None h all = absurd h
-idle C attempts journal script op receipts true (Some work) h all = absurd (let l : op < length script.ops = slice_get_within script.ops op h.under.step h.under.there in omega arith)
+idle : (C : Settings) (attempts : ℕ) (journal : List Entry) (script : Script) (op : ℕ) (receipts : List Listed) (under_way : Option Request) (work : Option Work) → IsWorking C attempts journal script op receipts under_way work → length script.ops ≤ op → under_way ≡ None
+idle C attempts journal script op receipts None work h all = refl
+idle C attempts journal script op receipts (Some request) None h all = absurd h
+idle C attempts journal script op receipts (Some request) (Some work) h all = absurd (let l : op < length script.ops = slice_get_within script.ops op h.under.step h.under.there in omega arith)
 
 -- a script has at most 4,000 operations, so that as many rounds are enough
 pub none_left : (C : Settings) (attempts : ℕ) (journal : List Entry) (seats : List Seat) → AllSeats C attempts journal seats → AreAhead 4000 seats → has_left seats ≡ false
@@ -201,5 +201,5 @@ none_left C attempts journal seats are ahead = any_none (λ s. not (has_ended s.
     ended : (seat : Seat) (k : ℕ) → IsSeat C attempts journal k seat → IsAhead 4000 seat → has_ended seat.client ≡ true
     ended seat k is far =
         let all : length seat.client.script.ops ≤ seat.client.op = omega (arith, is.script.short) in
-        let rest : seat.client.sent ≡ false = idle C attempts journal seat.client.script seat.client.op seat.receipts seat.client.sent seat.work is.working all in
-        grind (arith, nat_tests)
+        let rest : seat.client.request ≡ None = idle C attempts journal seat.client.script seat.client.op seat.receipts seat.client.request seat.work is.working all in
+        has_ended_by seat.client rest all

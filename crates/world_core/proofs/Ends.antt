@@ -28,12 +28,12 @@ use Rattle.txn_task.specs.declared.messages.Entry.{Entry}
 use Rattle.txn_task.specs.declared.outcome.Outcome.{Outcome}
 use Rattle.meta_task.specs.Task.{TaskView, IsKeptReply, IsToldReply}
 use Rattle.meta_task.specs.declared.waiting.Waiting.TheVariants as waits
-use Rattle.client_core.specs.Ops.{request_of}
+use Rattle.client_core.specs.Single.{single_request}
 use Rattle.client_core.specs.declared.plan.Op.{Op}
 use Rattle.client_core.specs.declared.plan.Script.{Script}
 use Rattle.run_record.specs.Legal.{EntryAt, journal_rows, tree_at, writes_of}
 use Rattle.run_record.specs.Outcomes.{seen_by, AreAttempts, IsSeen, IsTold, MayTell, NamesEntry, Shows}
-use Rattle.run_record.specs.Receipts.{AreConflicts, IsOf}
+use Rattle.run_record.specs.Receipts.{AreConflicts, AreLater, IsAnswered, IsOf, IsServed, MayMeetAll, StaysInside}
 use Rattle.run_record.specs.Right.{IsNoRefusal}
 use Rattle.run_record.specs.declared.run.Listed.{Listed}
 use Rattle.request_run.specs.Served.{IsBegun, last_version}
@@ -42,6 +42,7 @@ use Rattle.world_core.specs.Ready.{HasEnded, listed_of}
 use Rattle.request_run.specs.Sound.{IsSoundJournal}
 use Rattle.run_record.proofs.TreeReplies.{IsTreeReply, accepted_reply, attempts_left, may_tell}
 use Rattle.run_record.proofs.Rising.{last_version_above}
+use Rattle.run_record.proofs.Served.{one_request}
 use Rattle.request_run.proofs.Conflicts.{last_version_low, rows_ascending}
 use Rattle.world_core.proofs.Growth.{EntryAt_within}
 use Rattle.request_run.proofs.History.{kept_by, once, row_kept, rows_tree}
@@ -49,9 +50,9 @@ use Rattle.world_core.proofs.Named.{is_own, named_made, named_none, no_entry_fre
 
 -- ---- the receipt
 
-module _ (C : Settings) (attempts : ℕ) (journal : List Entry) (k : ℕ) (script : Script) (op : ℕ) (receipts : List Listed) (front : ℕ) (step : Op) (request : Request) (is : request ≡ request_of script op step) (from : version_after 0 receipts ≤ front) (outcome : Outcome) (conflicts : AreConflicts C journal request front outcome.conflicts) where
+module _ (C : Settings) (attempts : ℕ) (journal : List Entry) (k : ℕ) (script : Script) (op : ℕ) (receipts : List Listed) (front : ℕ) (step : Op) (request : Request) (is : request ≡ single_request script op step) (from : version_after 0 receipts ≤ front) (outcome : Outcome) (conflicts : AreConflicts C journal request front outcome.conflicts) where
   abbrev listed : Listed
-  listed = listed_of C k op step script.home front outcome
+  listed = listed_of C k script op step front outcome
 
   is_of : IsOf request listed.receipt
   is_of =
@@ -62,6 +63,19 @@ module _ (C : Settings) (attempts : ℕ) (journal : List Entry) (k : ℕ) (scrip
         call = ap (λ (q : Request). q.call) (sym is);
       }
 
+  client_mine : request.client ≡ script.id
+  client_mine = ap (λ (q : Request). q.client) is
+
+  later_mine : AreLater journal script.id front outcome.conflicts
+  later_mine = subst (λ (c : ClientId). AreLater journal c front outcome.conflicts) client_mine conflicts.0
+
+  -- the request that the receipt is of may meet the conflicts
+  inside : StaysInside C journal script.id listed
+  inside other mine of = subst (λ (q : Request). MayMeetAll C journal q front outcome.conflicts) (sym (one_request other request listed.receipt (mine ∙ sym client_mine) of is_of)) conflicts.1
+
+  answered : IsServed C journal script.id listed → AreAttempts attempts outcome.reply (length outcome.conflicts) → IsAnswered C attempts journal script.id listed
+  answered served met = record { served = served; met = met; inside = inside }
+
   -- what the receipt shows is there
   seen_within : outcome.version ≤ length journal → last_version front outcome.conflicts ≤ length journal → seen_by outcome ≤ length journal
   seen_within version last = let low : last_version 0 outcome.conflicts ≤ last_version front outcome.conflicts = last_version_low front outcome.conflicts in omega arith
@@ -71,15 +85,15 @@ module _ (C : Settings) (attempts : ℕ) (journal : List Entry) (k : ℕ) (scrip
       → last_version front outcome.conflicts ≤ place → length outcome.conflicts < attempts → (floor : ℕ) → AreNamedOr journal script.id receipts request floor → HasEnded C attempts journal k script op receipts front step outcome
   ended_made s place e at same reply committed version above left floor named =
       let within : place < length journal = EntryAt_within journal place e at in
-      let up : front ≤ last_version front outcome.conflicts = last_version_above C journal request front outcome.conflicts conflicts in
+      let up : front ≤ last_version front outcome.conflicts = last_version_above journal request.client front outcome.conflicts conflicts.0 in
       let accepted : IsTreeReply outcome.reply = accepted_reply outcome.reply (subst IsNoRefusal reply (no_refusal C journal s place e at)) in
       record {
         receipt = record {
           fronts = refl;
           text = refl;
-          by_server = record {
+          by_server = answered (record {
             request = request;
-            client_is = ap (λ (q : Request). q.client) is;
+            client_is = client_mine;
             is_of = is_of;
             outcome = subst (λ b. MatchBool b (NamesEntry journal request front outcome) (IsSeen C journal request front outcome)) (sym committed)
                 (record {
@@ -88,17 +102,19 @@ module _ (C : Settings) (attempts : ℕ) (journal : List Entry) (k : ℕ) (scrip
                   entry = e;
                   at = at;
                   client = ap (λ (q : Request). q.client) same;
-                  server = ap (λ (q : Request). q.server) same;
                   number = ap (λ (q : Request). q.number) same;
                   stamp = ap (λ (q : Request). q.stamp) same;
                   call = ap (λ (q : Request). q.call) same;
                   reply = reply;
                   above = above;
                 });
+            made_by = λ mark p x at_x v. (
+                let place_is : p ≡ place = omega arith in
+                let both : Some x ≡ Some e = sym at_x ∙ (ap (slice_get journal) place_is ∙ at) in
+                inl (ap (λ (q : Request). Some q.server) (sym (ap (λ (y : Entry). y.request) (same_Some x e both) ∙ (same ∙ is)))));
             may = may_tell request.call outcome.reply accepted;
-            met = attempts_left attempts outcome.reply (length outcome.conflicts) accepted left;
-            conflicts = conflicts;
-          };
+            conflicts = later_mine;
+          }) (attempts_left attempts outcome.reply (length outcome.conflicts) accepted left);
         };
         from = from;
         above = omega arith;
@@ -115,16 +131,16 @@ module _ (C : Settings) (attempts : ℕ) (journal : List Entry) (k : ℕ) (scrip
         receipt = record {
           fronts = refl;
           text = refl;
-          by_server = record {
+          by_server = answered (record {
             request = request;
-            client_is = ap (λ (q : Request). q.client) is;
+            client_is = client_mine;
             is_of = is_of;
             outcome = subst (λ b. MatchBool b (NamesEntry journal request front outcome) (IsSeen C journal request front outcome)) (sym committed)
                 (record { above = above; within = within; shown = shown });
+            made_by = λ mark p x at_x v. absurd (let f : true ≡ false = sym mark ∙ committed in cc);
             may = may;
-            met = met;
-            conflicts = conflicts;
-          };
+            conflicts = later_mine;
+          }) met;
         };
         from = from;
         above = above;
@@ -153,7 +169,7 @@ module _ (C : Settings) (attempts : ℕ) (journal : List Entry) (k : ℕ) (scrip
 
     pub front_below : IsBegun C journal task.request.client (last_version front task.conflicts) task → front ≤ task.snapshot
     front_below b =
-        let up : front ≤ last_version front task.conflicts = last_version_above C journal task.request front task.conflicts u.task_is.conflicts in
+        let up : front ≤ last_version front task.conflicts = last_version_above journal task.request.client front task.conflicts u.task_is.conflicts.0 in
         let from : last_version front task.conflicts ≤ task.snapshot = b.from in
         omega arith
 

@@ -22,7 +22,7 @@ use Rattle.meta_task.specs.Task.{TaskView}
 use Rattle.client_core.specs.declared.plan.Script.{Script}
 use Rattle.run_record.specs.Legal.{EntryAt, tree_after, tree_at, journal_rows, writes_of}
 use Rattle.run_record.specs.Outcomes.{IsOutcome, IsSeen, IsTold, NamesEntry, Shows}
-use Rattle.run_record.specs.Receipts.{front_of, outcome_of, AreConflicts, AreReceipts, IsReceipt, IsServed, NamesLater}
+use Rattle.run_record.specs.Receipts.{front_of, outcome_of, AreConflicts, AreLater, AreReceipts, IsAnswered, IsReceipt, IsServed, MayMeet, MayMeetAll, NamesLater}
 use Rattle.run_record.specs.Touched.{IsTouched}
 use Rattle.run_record.specs.declared.run.Listed.{Listed}
 use Rattle.request_run.specs.Served.{IsBegun, IsTask, last_version}
@@ -66,27 +66,43 @@ rows-grown C es new n l = ap (after_all writes_of (opening_bytes C)) (take-appen
 -- ---- receipts
 
 module _ (C : Settings) (es : List Entry) (new : Entry) where
-  NamesLater-grown : (request : Request) (floor : ℕ) (pair : ℕ × Key) → NamesLater C es request floor pair → NamesLater C (es ++ new ∷ []) request floor pair
-  NamesLater-grown request floor pair h =
-      let within : h.place < length es = EntryAt_within es h.place h.entry h.at in
-      let later : h.snapshot ≤ h.place = h.later in
-      let same : tree_at C (es ++ new ∷ []) h.snapshot ≡ tree_at C es h.snapshot = tree_at-grown C es new h.snapshot (omega arith) in
-      record {
-        snapshot = h.snapshot;
-        from = h.from;
-        place = h.place;
-        version = h.version;
-        later = h.later;
-        entry = h.entry;
-        at = EntryAt-grown es new h.place h.entry h.at;
-        other = h.other;
-        wrote = h.wrote;
-        touched = subst (λ (T : Tree). IsTouched (footprint C T request) pair.1) (sym same) h.touched;
-      }
+  AreLater-grown : (client : ClientId) (floor : ℕ) (pairs : List (ℕ × Key)) → AreLater es client floor pairs → AreLater (es ++ new ∷ []) client floor pairs
+  AreLater-grown client floor [] h = tt
+  AreLater-grown client floor (pair ∷ pairs) h =
+      let one : NamesLater es client floor pair = h.0 in (
+        record {
+          place = one.place;
+          version = one.version;
+          later = one.later;
+          entry = one.entry;
+          at = EntryAt-grown es new one.place one.entry one.at;
+          other = one.other;
+          wrote = one.wrote;
+        },
+        AreLater-grown client pair.0 pairs h.1,
+      )
+
+  -- conflicts are of versions that the journal had
+  MayMeetAll-grown : (request : Request) (client : ClientId) (floor : ℕ) (pairs : List (ℕ × Key)) → AreLater es client floor pairs → MayMeetAll C es request floor pairs → MayMeetAll C (es ++ new ∷ []) request floor pairs
+  MayMeetAll-grown request client floor [] later h = tt
+  MayMeetAll-grown request client floor (pair ∷ pairs) later h =
+      let one : MayMeet C es request floor pair = h.0 in
+      let names : NamesLater es client floor pair = later.0 in
+      let within : names.place < length es = EntryAt_within es names.place names.entry names.at in
+      let version : pair.0 ≡ names.place + 1 = names.version in
+      let before : one.snapshot < pair.0 = one.before in
+      let same : tree_at C (es ++ new ∷ []) one.snapshot ≡ tree_at C es one.snapshot = tree_at-grown C es new one.snapshot (omega arith) in (
+        record {
+          snapshot = one.snapshot;
+          from = one.from;
+          before = before;
+          touched = subst (λ (T : Tree). IsTouched (footprint C T request) pair.1) (sym same) one.touched;
+        },
+        MayMeetAll-grown request client pair.0 pairs later.1 h.1,
+      )
 
   pub AreConflicts-grown : (request : Request) (floor : ℕ) (pairs : List (ℕ × Key)) → AreConflicts C es request floor pairs → AreConflicts C (es ++ new ∷ []) request floor pairs
-  AreConflicts-grown request floor [] h = tt
-  AreConflicts-grown request floor (pair ∷ pairs) h = (NamesLater-grown request floor pair h.0, AreConflicts-grown request pair.0 pairs h.1)
+  AreConflicts-grown request floor pairs h = (AreLater-grown request.client floor pairs h.0, MayMeetAll-grown request request.client floor pairs h.0 h.1)
 
   pub NamesEntry-grown : (request : Request) (front : ℕ) (outcome : Outcome) → NamesEntry es request front outcome → NamesEntry (es ++ new ∷ []) request front outcome
   NamesEntry-grown request front outcome h =
@@ -96,7 +112,6 @@ module _ (C : Settings) (es : List Entry) (new : Entry) where
         entry = h.entry;
         at = EntryAt-grown es new h.place h.entry h.at;
         client = h.client;
-        server = h.server;
         number = h.number;
         stamp = h.stamp;
         call = h.call;
@@ -136,25 +151,45 @@ module _ (C : Settings) (es : List Entry) (new : Entry) where
           | false ↦ λ s. IsSeen-grown request front outcome s
         ]) h
 
-    IsServed-grown : (client : ClientId) (listed : Listed) → IsServed C attempts es client listed → IsServed C attempts (es ++ new ∷ []) client listed
+    -- the new entry has no receipt yet
+    IsMadeBy-grown : (client : ClientId) (listed : Listed) → IsServed C es client listed → IsMadeBy (es ++ new ∷ []) listed.receipt
+    IsMadeBy-grown client listed h mark place e at version =
+        let names : NamesEntry es h.request (front_of listed.fronts) (outcome_of listed.receipt)
+        = subst (λ b. MatchBool b (NamesEntry es h.request (front_of listed.fronts) (outcome_of listed.receipt)) (IsSeen C es h.request (front_of listed.fronts) (outcome_of listed.receipt))) mark h.outcome in
+        let within : names.place < length es = EntryAt_within es names.place names.entry names.at in
+        let version_named : listed.receipt.version ≡ names.place + 1 = names.version in
+        elim (EntryAt_cases es new place e at) [
+          | inl old ↦ h.made_by mark place e old version
+          | inr is ↦ absurd (let last : place ≡ length es = is.0 in omega arith)
+        ]
+
+    IsServed-grown : (client : ClientId) (listed : Listed) → IsServed C es client listed → IsServed C (es ++ new ∷ []) client listed
     IsServed-grown client listed h =
         record {
           request = h.request;
           client_is = h.client_is;
           is_of = h.is_of;
           outcome = IsOutcome-grown h.request (front_of listed.fronts) (outcome_of listed.receipt) h.outcome;
+          made_by = IsMadeBy-grown client listed h;
           may = h.may;
+          conflicts = AreLater-grown client (front_of listed.fronts) listed.receipt.conflicts h.conflicts;
+        }
+
+    IsAnswered-grown : (client : ClientId) (listed : Listed) → IsAnswered C attempts es client listed → IsAnswered C attempts (es ++ new ∷ []) client listed
+    IsAnswered-grown client listed h =
+        record {
+          served = IsServed-grown client listed h.served;
           met = h.met;
-          conflicts = AreConflicts-grown h.request (front_of listed.fronts) listed.receipt.conflicts h.conflicts;
+          inside = λ request mine of. MayMeetAll-grown request client (front_of listed.fronts) listed.receipt.conflicts h.served.conflicts (h.inside request mine of);
         }
 
     pub IsReceipt-grown : (client : ClientId) (listed : Listed) → IsReceipt C attempts es client listed → IsReceipt C attempts (es ++ new ∷ []) client listed
     IsReceipt-grown client listed h = record {
       fronts = h.fronts;
       text = h.text;
-      by_server = (elim listed.receipt.server as (λ o. MatchOption o ⊥ (λ server. IsServed C attempts es client listed) → MatchOption o ⊥ (λ server. IsServed C attempts (es ++ new ∷ []) client listed)) [
+      by_server = (elim listed.receipt.server as (λ o. MatchOption o ⊥ (λ server. IsAnswered C attempts es client listed) → MatchOption o ⊥ (λ server. IsAnswered C attempts (es ++ new ∷ []) client listed)) [
         | None ↦ λ none. none
-        | Some server ↦ λ is. IsServed-grown client listed is
+        | Some server ↦ λ is. IsAnswered-grown client listed is
       ]) h.by_server;
     }
 
@@ -232,12 +267,12 @@ module _ (C : Settings) (es : List Entry) (new : Entry) where
   IsWork-grown attempts script op receipts work n h =
       record { under = IsUnderWay-grown attempts script op receipts work.front work.task n h.under; pending = h.pending; server = h.server }
 
-  pub IsWorking-grown : (attempts : ℕ) (script : Script) (op : ℕ) (receipts : List Listed) (sent : Bool) (work : Option Work) → new.request.client ≢ script.id
-      → IsWorking C attempts es script op receipts sent work → IsWorking C attempts (es ++ new ∷ []) script op receipts sent work
-  IsWorking-grown attempts script op receipts false None n h = AreNamed-grown script.id receipts n h
-  IsWorking-grown attempts script op receipts true (Some work) n h = IsWork-grown attempts script op receipts work n h
-  IsWorking-grown attempts script op receipts false (Some work) n h = absurd h
-  IsWorking-grown attempts script op receipts true None n h = absurd h
+  pub IsWorking-grown : (attempts : ℕ) (script : Script) (op : ℕ) (receipts : List Listed) (under_way : Option Request) (work : Option Work) → new.request.client ≢ script.id
+      → IsWorking C attempts es script op receipts under_way work → IsWorking C attempts (es ++ new ∷ []) script op receipts under_way work
+  IsWorking-grown attempts script op receipts None None n h = AreNamed-grown script.id receipts n h
+  IsWorking-grown attempts script op receipts (Some request) (Some work) n h = IsWork-grown attempts script op receipts work n h
+  IsWorking-grown attempts script op receipts None (Some work) n h = absurd h
+  IsWorking-grown attempts script op receipts (Some request) None n h = absurd h
 
   -- an entry of another client leaves a seat as it was
   pub IsSeat-grown : (attempts k : ℕ) (seat : Seat) → length es < 200000 → new.request.client ≢ seat.client.script.id → IsSeat C attempts es k seat → IsSeat C attempts (es ++ new ∷ []) k seat
@@ -245,6 +280,7 @@ module _ (C : Settings) (es : List Entry) (new : Entry) where
       record {
         config = h.config;
         script = h.script;
+        client = h.client;
         past = IsPast-grown C es new attempts room k seat.client.script seat.client.op seat.receipts h.past;
-        working = IsWorking-grown attempts seat.client.script seat.client.op seat.receipts seat.client.sent seat.work n h.working;
+        working = IsWorking-grown attempts seat.client.script seat.client.op seat.receipts seat.client.request seat.work n h.working;
       }

@@ -20,7 +20,7 @@ use Rattle.tree_model.proofs.ApplyLaws.{apply_update}
 use Rattle.tree_model.specs.declared.kept.KeptReply.{KeptReply}
 use Rattle.txn_task.specs.declared.messages.Entry.{Entry}
 use Rattle.meta_task.specs.Task.{TaskView, IsStale, ShowsNew}
-use Rattle.client_core.specs.Ops.{request_of}
+use Rattle.client_core.specs.Single.{single_request}
 use Rattle.client_core.specs.declared.plan.Op.{Op}
 use Rattle.client_core.specs.declared.plan.Script.{Script}
 use Rattle.run_record.specs.Legal.{EntryAt, IsOnce, journal_rows, tree_at}
@@ -74,10 +74,10 @@ take_short (suc n) [] = omega arith
 take_short (suc n) (x ∷ steps) = let l : length (take n steps) ≤ n = take_short n steps in omega arith
 
 module _ (C : Settings) (attempts : ℕ) (es : List Entry) (k : ℕ) (script : Script) where
-  receipt_number : (op : ℕ) (step : Op) (listed : Listed) (place : ℕ) (e : Entry) → IsOf (request_of script op step) listed.receipt → IsReceipt C attempts es script.id listed → EntryAt es place e
+  receipt_number : (op : ℕ) (step : Op) (listed : Listed) (place : ℕ) (e : Entry) → IsOf (single_request script op step) listed.receipt → IsReceipt C attempts es script.id listed → EntryAt es place e
       → listed.receipt.committed ≡ true → listed.receipt.version ≡ place + 1 → e.request.number ≡ op + 1
   receipt_number op step listed place e is_of receipt at committed version =
-      let h : IsServed C attempts es script.id listed = served receipt in
+      let h : IsServed C es script.id listed = served receipt in
       let names : NamesEntry es h.request (front_of listed.fronts) (outcome_of listed.receipt)
       = subst (λ b. MatchBool b (NamesEntry es h.request (front_of listed.fronts) (outcome_of listed.receipt)) (IsSeen C es h.request (front_of listed.fronts) (outcome_of listed.receipt))) committed h.outcome in
       let v : listed.receipt.version ≡ names.place + 1 = names.version in

@@ -1,11 +1,12 @@
 -- From clients that have ended to the record of their run.
-use Rattle.std.proofs.Common.{◌≡◌, ◌≢◌, ℕ, zero, suc, ◌+◌, ◌<◌, ◌≤◌, inl, inr, List, [], ◌∷◌, ◌++◌, map, Option, Some, None, Bool, true, false, cond, eqb, nat_le, length, take, count_by, MatchBool, refl, sym, ap, subst, ◌∙◌, arith, zero-add}
+use Rattle.std.proofs.Common.{◌≡◌, ◌≢◌, ℕ, zero, suc, ◌+◌, ◌<◌, ◌≤◌, inl, inr, List, [], ◌∷◌, ◌++◌, map, Option, Some, None, Bool, true, false, cond, eqb, length, take, count_by, MatchBool, refl, sym, ap, subst, ◌∙◌, arith, zero-add}
 use Rattle.std.specs.Prelude.{slice_get}
-use Rattle.std.proofs.lemmas.Bool.{and_parts, and_from, cases_Bool, eqb-true, eq-eqb, leb-true}
+use Rattle.std.proofs.lemmas.Bool.{and_parts, and_from, cases_Bool, eqb-true, eq-eqb}
 use Rattle.std.proofs.lemmas.List.{take_all}
 use Rattle.std.proofs.lemmas.List.Sums.{sum_by-append, sum_by-cons}
 use Rattle.std.proofs.lemmas.Option.{same_Some}
 use Rattle.fs_base.specs.Config.{Settings}
+use Rattle.fs_base.specs.declared.call.Request.{Request}
 use Rattle.fs_base.specs.declared.ids.ClientId.{ClientId}
 use Rattle.path_walk.specs.Areas.{AreRead}
 use Rattle.path_walk.specs.Footprint.{footprint}
@@ -15,8 +16,9 @@ use Rattle.tree_model.specs.Effects.{Makes, at_length, settled_by}
 use Rattle.tree_model.specs.Tree.{Tree}
 use Rattle.txn_task.specs.Agreeing.{Agrees}
 use Rattle.txn_task.specs.declared.messages.Entry.{Entry}
-use Rattle.client_core.specs.Client.{ClientView, has_ended}
+use Rattle.client_core.specs.Client.{has_ended}
 use Rattle.client_core.specs.Plans.{AreDistinct}
+use Rattle.client_core.specs.Scripts.{scripts_in}
 use Rattle.client_core.specs.declared.plan.Op.{Op}
 use Rattle.client_core.specs.declared.plan.Script.{Script}
 use Rattle.run_record.specs.Legal.{EntryAt, IsLegal, journal_rows, tree_at}
@@ -27,6 +29,8 @@ use Rattle.run_record.specs.Right.{AreSections, IsRight, IsRightEntry, names_pla
 use Rattle.run_record.specs.Touched.{AreTouched}
 use Rattle.run_record.specs.declared.run.Listed.{Listed}
 use Rattle.run_record.specs.declared.run.Record.{Record}
+use Rattle.client_core.proofs.Ending.{ended_is}
+use Rattle.client_core.proofs.Scripts.{scripts_are}
 use Rattle.run_record.proofs.Replaying.{section_of}
 use Rattle.run_record.proofs.Served.{served}
 use Rattle.request_run.specs.Served.{AreCovered}
@@ -61,14 +65,6 @@ entry_right C journal place e s covered at =
     }
 
 -- ---- each client's receipts
-
--- nothing is under way or left
-ended_parts : (sent : Bool) (len op : ℕ) → cond sent false (nat_le len op) ≡ true → (sent ≡ false) × (len ≤ op)
-ended_parts true len op e = absurd (let f : false ≡ true = e in cc)
-ended_parts false len op e = (refl, leb-true len op e)
-
-ended_is : (c : ClientView) → has_ended c ≡ true → (c.sent ≡ false) × (length c.script.ops ≤ c.op)
-ended_is c e = ended_parts c.sent (length c.script.ops) c.op e
 
 section : (C : Settings) (attempts : ℕ) (journal : List Entry) (k : ℕ) (seat : Seat) → IsSeat C attempts journal k seat → has_ended seat.client ≡ true → IsSection C attempts journal k seat.client.script seat.receipts
 section C attempts journal k seat h ended =
@@ -119,7 +115,7 @@ module _ (C : Settings) (attempts : ℕ) (journal : List Entry) (place : ℕ) (e
   -- a receipt that names the entry has its number, and is its client's
   named_is : (client : ClientId) (listed : Listed) → IsReceipt C attempts journal client listed → names_place place listed ≡ true → (e.request.client ≡ client) × (listed.receipt.number ≡ Some e.request.number)
   named_is client listed receipt names =
-      let h : IsServed C attempts journal client listed = served receipt in
+      let h : IsServed C journal client listed = served receipt in
       let parts : (listed.receipt.committed ≡ true) × (eqb listed.receipt.version (place + 1) ≡ true) = and_parts listed.receipt.committed (eqb listed.receipt.version (place + 1)) names in
       let named : NamesEntry journal h.request (front_of listed.fronts) (outcome_of listed.receipt) =
       subst (λ b. MatchBool b (NamesEntry journal h.request (front_of listed.fronts) (outcome_of listed.receipt)) (IsSeen C journal h.request (front_of listed.fronts) (outcome_of listed.receipt))) parts.0 h.outcome in
@@ -199,11 +195,11 @@ entry_in (x ∷ journal) zero l = (x, refl)
 entry_in (x ∷ journal) (suc place) l = entry_in journal place (omega arith)
 
 -- a client that has ended has a receipt of each entry
-named_ended : (C : Settings) (attempts : ℕ) (journal : List Entry) (script : Script) (op : ℕ) (receipts : List Listed) (sent : Bool) (work : Option Work) → sent ≡ false → IsWorking C attempts journal script op receipts sent work → AreNamed journal script.id receipts
-named_ended C attempts journal script op receipts false None e h = h
-named_ended C attempts journal script op receipts false (Some work) e h = absurd h
-named_ended C attempts journal script op receipts true None e h = absurd h
-named_ended C attempts journal script op receipts true (Some work) e h = absurd (let f : true ≡ false = e in cc)
+named_ended : (C : Settings) (attempts : ℕ) (journal : List Entry) (script : Script) (op : ℕ) (receipts : List Listed) (under_way : Option Request) (work : Option Work) → under_way ≡ None → IsWorking C attempts journal script op receipts under_way work → AreNamed journal script.id receipts
+named_ended C attempts journal script op receipts None None e h = h
+named_ended C attempts journal script op receipts None (Some work) e h = absurd h
+named_ended C attempts journal script op receipts (Some request) None e h = absurd h
+named_ended C attempts journal script op receipts (Some request) (Some work) e h = absurd (let f : Some request ≡ None = e in cc)
 
 pub named_once : (C : Settings) (attempts : ℕ) (journal : List Entry) (seats : List Seat) → AreDistinct (scripts_of seats) → AreSeated C attempts journal seats → HaveEnded seats → (place : ℕ) → place < length journal → count_by (names_place place) (receipts_in seats) ≡ 1
 named_once C attempts journal seats distinct seated ended place l =
@@ -214,8 +210,8 @@ named_once C attempts journal seats distinct seated ended place l =
     owned e at owner =
         let x : Seat = owner.1 in
         let h : IsSeat C attempts journal owner.0 x = seated.all owner.0 x owner.2 in
-        let still : x.client.sent ≡ false = (ended_is x.client (ended owner.0 x owner.2)).0 in
-        let has : HasReceipt x.receipts place = named_ended C attempts journal x.client.script x.client.op x.receipts x.client.sent x.work still h.working place e at owner.3 in
+        let still : x.client.request ≡ None = (ended_is x.client (ended owner.0 x owner.2)).0 in
+        let has : HasReceipt x.receipts place = named_ended C attempts journal x.client.script x.client.op x.receipts x.client.request x.work still h.working place e at owner.3 in
         one_in place seats owner.0 x owner.2
         (one_receipt C attempts journal place e at owner.0 x.client.script 0 (take x.client.op x.client.script.ops) x.receipts h.past.each h.past.follow has)
         (λ j z apart at_z. none_other C attempts journal place e at z.client.script.id z.receipts
@@ -224,22 +220,24 @@ named_once C attempts journal seats distinct seated ended place l =
 -- ---- the record
 
 pub right_record : (w : WorldView) (run : Record) → IsSoundJournal w.config (entries_of w.objects.store.journal) → AreDistinct (scripts_of w.seats) → AreSeated w.config w.attempts (entries_of w.objects.store.journal) w.seats → HaveEnded w.seats
-    → run.config ≡ w.config → run.clients ≡ map (λ (script : Script). script.id) (scripts_of w.seats) → run.receipts ≡ receipts_in w.seats → run.entries ≡ entries_of w.objects.store.journal → run.summary ≡ summary_of run.receipts run.entries
+    → run.config ≡ w.config → run.clients ≡ map (λ (script : Script). script.id) (scripts_of w.seats) → run.receipts ≡ receipts_in w.seats → run.entries ≡ entries_of w.objects.store.journal → run.summary ≡ summary_of run.clients run.receipts run.entries
     → IsRight (plan_of w) run
 right_record w run s distinct seated ended config clients receipts entries summary =
     let C : Settings = w.config in
     let journal : List Entry = entries_of w.objects.store.journal in
     let named : (place : ℕ) → place < length journal → naming place (receipts_in w.seats) ≡ 1 = named_once C w.attempts journal w.seats distinct seated ended in
+    let all : scripts_in (plan_of w) ≡ scripts_of w.seats = scripts_are (plan_of w) in
     record {
       config = config;
-      clients = clients;
+      clients = clients ∙ sym (ap (λ (ss : List Script). map (λ (script : Script). script.id) ss) all);
       legal = subst (λ (es : List Entry). IsLegal C es) (sym entries) (legal C journal s);
       rows = subst (λ (es : List Entry). (n : ℕ) → HasTree C (journal_rows C es n) (tree_at C es n)) (sym entries) (rows_tree C journal s);
       entries = subst (λ (es : List Entry). (place : ℕ) (e : Entry) → EntryAt es place e → IsRightEntry C es place e) (sym entries) (λ place e at. entry_right C journal place e s seated.covered at);
-      sections = subst (λ (es : List Entry). AreSections C w.attempts es 0 (scripts_of w.seats) run.receipts) (sym entries)
-          (subst (λ (rs : List Listed). AreSections C w.attempts journal 0 (scripts_of w.seats) rs) (sym receipts)
+      sections = subst (λ (es : List Entry). AreSections C w.attempts es 0 (scripts_in (plan_of w)) run.receipts) (sym entries)
+          (subst (λ (rs : List Listed). AreSections C w.attempts journal 0 (scripts_in (plan_of w)) rs) (sym receipts)
+          (subst (λ (ss : List Script). AreSections C w.attempts journal 0 ss (receipts_in w.seats)) (sym all)
           (sections C w.attempts journal w.seats 0 (λ k z at.
-          (let same : k ≡ 0 + k = omega arith in (subst (λ n. IsSeat C w.attempts journal n z) same (seated.all k z at), ended k z at)))));
+          (let same : k ≡ 0 + k = omega arith in (subst (λ n. IsSeat C w.attempts journal n z) same (seated.all k z at), ended k z at))))));
       named = subst (λ (es : List Entry). (place : ℕ) → place < length es → naming place run.receipts ≡ 1) (sym entries)
           (subst (λ (rs : List Listed). (place : ℕ) → place < length journal → naming place rs ≡ 1) (sym receipts) named);
       summary = summary;

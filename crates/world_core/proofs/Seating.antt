@@ -19,6 +19,7 @@ use Rattle.world_core.specs.Kept.{IsSeat}
 use Rattle.request_run.specs.Entries.{IsGrowth, entries_of}
 use Rattle.world_core.specs.World.{AllSeats, AreSeated, scripts_of, seats_of}
 use Rattle.world_core.specs.declared.seats.Seat.{Seat}
+use Rattle.client_core.proofs.Single.{single_new}
 use Rattle.world_core.proofs.Growth.{EntryAt_cases, IsSeat-grown}
 use Rattle.request_run.proofs.Rows.{entries-push, length_entries}
 
@@ -132,6 +133,7 @@ seat_new C attempts k script h =
     record {
       config = refl;
       script = h;
+      client = single_new C script h;
       past = record { follow = tt; each = tt; rises = tt; within = omega arith };
       working = λ place e at mine. absurd (let none : None ≡ Some e = at in cc);
     }

@@ -10,7 +10,7 @@ use Rattle.txn_task.specs.declared.messages.Entry.{Entry}
 use Rattle.txn_task.specs.declared.outcome.Outcome.{Outcome}
 use Rattle.meta_task.specs.Task.{TaskView, Asks, new_task}
 use Rattle.meta_task.specs.declared.waiting.Waiting.TheVariants as waits
-use Rattle.client_core.specs.Ops.{request_of}
+use Rattle.client_core.specs.Single.{single_request}
 use Rattle.client_core.specs.declared.plan.Op.{Op}
 use Rattle.client_core.specs.declared.plan.Script.{Script}
 use Rattle.run_record.specs.Outcomes.{seen_by}
@@ -37,12 +37,12 @@ version_after-push floor (x ∷ rs) r = version_after-push (seen_by (outcome_of 
 
 -- the receipt is that of the operation with this ordinal
 abbrev IsNext : ℕ → Script → ℕ → Op → Listed → Type 0
-IsNext k script op step r = (r.client ≡ k) × (r.receipt.op ≡ op) × IsOf (request_of script op step) r.receipt × (r.receipt.gone ≡ [])
+IsNext k script op step r = (r.client ≡ k) × (r.receipt.op ≡ op) × IsOf (single_request script op step) r.receipt × (r.receipt.gone ≡ [])
 
 Follow-push : (k : ℕ) (script : Script) (from last : ℕ) (steps : List Op) (step : Op) (rs : List Listed) (r : Listed) → last ≡ from + length steps → Follow k script from steps rs → IsNext k script last step r → Follow k script from (steps ++ step ∷ []) (rs ++ r ∷ [])
 Follow-push k script from last [] step [] r is f (client, op_is, of, gone) =
     let same : last ≡ from = omega arith in
-    (client, op_is ∙ same, subst (λ n. IsOf (request_of script n step) r.receipt) same of, gone, tt)
+    (client, op_is ∙ same, subst (λ n. IsOf (single_request script n step) r.receipt) same of, gone, tt)
 Follow-push k script from last [] step (x ∷ rs) r is f n = absurd f
 Follow-push k script from last (first ∷ steps) step [] r is f n = absurd f
 Follow-push k script from last (first ∷ steps) step (x ∷ rs) r is (client, op_is, of, gone, rest) n =
@@ -59,9 +59,9 @@ take_more (x ∷ steps) (suc n) step at =
 
 -- the receipt of a request that has ended joins those before it
 pub past_more : (C : Settings) (attempts : ℕ) (journal : List Entry) (k : ℕ) (script : Script) (op : ℕ) (receipts : List Listed) (front : ℕ) (step : Op) (outcome : Outcome) → IsPast C attempts journal k script op receipts → slice_get script.ops op ≡ Some step
-    → HasEnded C attempts journal k script op receipts front step outcome → IsPast C attempts journal k script (op + 1) (receipts ++ listed_of C k op step script.home front outcome ∷ [])
+    → HasEnded C attempts journal k script op receipts front step outcome → IsPast C attempts journal k script (op + 1) (receipts ++ listed_of C k script op step front outcome ∷ [])
 past_more C attempts journal k script op receipts front step outcome past there h =
-    let r : Listed = listed_of C k op step script.home front outcome in
+    let r : Listed = listed_of C k script op step front outcome in
     let more : (take (suc op) script.ops ≡ take op script.ops ++ step ∷ []) × (op ≡ 0 + length (take op script.ops)) = take_more script.ops op step there in
     let steps : take op script.ops ++ step ∷ [] ≡ take (op + 1) script.ops = sym more.0 ∙ ap (λ n. take n script.ops) (sym (add-one op)) in
     let follow : Follow k script 0 (take op script.ops ++ step ∷ []) (receipts ++ r ∷ [])
@@ -77,7 +77,7 @@ past_more C attempts journal k script op receipts front step outcome past there 
 
 -- a new request waits for its version
 pub begins : (C : Settings) (attempts : ℕ) (journal : List Entry) (k : ℕ) (script : Script) (op : ℕ) (receipts : List Listed) (step : Op) → IsPast C attempts journal k script op receipts → AreNamed journal script.id receipts → slice_get script.ops op ≡ Some step
-    → IsUnderWay C attempts journal script op receipts (length journal) (record (new_task C attempts (request_of script op step)) { waiting = waits.Beginning })
+    → IsUnderWay C attempts journal script op receipts (length journal) (record (new_task C attempts (single_request script op step)) { waiting = waits.Beginning })
 begins C attempts journal k script op receipts step past named there =
     record {
       step = step;
@@ -90,7 +90,7 @@ begins C attempts journal k script op receipts step past named there =
     }
 
 pub ready_start : (C : Settings) (attempts : ℕ) (journal : List Entry) (k : ℕ) (script : Script) (op : ℕ) (receipts : List Listed) (step : Op) (after : TaskView) (ask : Ask) → IsPast C attempts journal k script op receipts → AreNamed journal script.id receipts
-    → slice_get script.ops op ≡ Some step → Asks (new_task C attempts (request_of script op step)) answers.Start after ask → GoesOn C attempts journal script op receipts (length journal) after ask
+    → slice_get script.ops op ≡ Some step → Asks (new_task C attempts (single_request script op step)) answers.Start after ask → GoesOn C attempts journal script op receipts (length journal) after ask
 ready_start C attempts journal k script op receipts step after asks.Begin past named there h =
     record {
       under = subst (λ (t : TaskView). IsUnderWay C attempts journal script op receipts (length journal) t) (sym h.0) (begins C attempts journal k script op receipts step past named there);

@@ -24,11 +24,11 @@ use Rattle.txn_task.specs.declared.outcome.Outcome.{Outcome}
 use Rattle.meta_task.specs.Task.{TaskView, new_task, learnt, reads_with, Asks, HasOrigin, HasReadAll, MayTake}
 use Rattle.meta_task.specs.declared.waiting.Waiting.{Waiting}
 use Rattle.meta_task.specs.declared.waiting.Waiting.TheVariants as waits
-use Rattle.client_core.specs.Ops.{request_of}
+use Rattle.client_core.specs.Single.{single_request}
 use Rattle.client_core.specs.declared.plan.Op.{Op}
 use Rattle.client_core.specs.declared.plan.Script.{Script}
 use Rattle.run_record.specs.Legal.{journal_rows, writes_of}
-use Rattle.run_record.specs.Receipts.{NamesLater}
+use Rattle.run_record.specs.Receipts.{IsConflict}
 use Rattle.run_record.specs.declared.run.Listed.{Listed}
 use Rattle.request_run.specs.Served.{IsBegun, IsCovered, IsPending, IsTask, last_version}
 use Rattle.world_core.specs.Kept.{AreNamedOr, IsUnderWay}
@@ -111,24 +111,24 @@ module _ (C : Settings) (attempts : ℕ) (journal : List Entry) (front : ℕ) wh
   pub IsTask_conflict : (task : TaskView) (version : ℕ) (key : Key) → IsSoundJournal C journal → RequestFits task.request → IsSpellable key → task.begun ≡ true
       → first_later writes_of journal task.snapshot task.reads ≡ Some (version, spelled_key key) → IsTask C attempts journal front task → IsTask C attempts journal front (learnt task (answers.Conflict version key))
   IsTask_conflict task version key s fits spellable begun later h =
-      let n : NamesLater C journal task.request (last_version front task.conflicts) (version, key)
+      let n : IsConflict C journal task.request (last_version front task.conflicts) (version, key)
       = conflict_named C journal (last_version front task.conflicts) task version key s fits (h.begun begun) spellable later in
       record {
         config = h.config;
         attempts_are = h.attempts_are;
         conflicts = AreConflicts-push C journal task.request front task.conflicts (version, key) h.conflicts n;
         last = (let e : last_version front (task.conflicts ++ (version, key) ∷ []) ≡ version = last_version-push front task.conflicts (version, key) in
-            let v : version ≡ n.place + 1 = n.version in
-            let w : n.place < length journal = EntryAt_within journal n.place n.entry n.at in
+            let v : version ≡ n.0.place + 1 = n.0.version in
+            let w : n.0.place < length journal = EntryAt_within journal n.0.place n.0.entry n.0.at in
             omega arith);
         begun = λ b. absurd (let f : false ≡ true = b in cc);
       }
 
 -- a request whose task is new
 pub started : (C : Settings) (attempts : ℕ) (journal : List Entry) (script : Script) (op : ℕ) (step : Op) (front : ℕ) → front ≤ length journal
-    → IsTask C attempts journal front (record (new_task C attempts (request_of script op step)) { waiting = waits.Beginning })
+    → IsTask C attempts journal front (record (new_task C attempts (single_request script op step)) { waiting = waits.Beginning })
 started C attempts journal script op step front l =
-    record { config = refl; attempts_are = refl; conflicts = tt; last = l; begun = λ b. absurd (let f : false ≡ true = b in cc) }
+    record { config = refl; attempts_are = refl; conflicts = (tt, tt); last = l; begun = λ b. absurd (let f : false ≡ true = b in cc) }
 
 learnt_request : (task : TaskView) (answer : Answer) → (learnt task answer).request ≡ task.request
 learnt_request task (answers.Begun version) = refl

@@ -1,11 +1,11 @@
 -- What is kept of a client, from turn to turn.
-use Rattle.std.specs.Prelude.{◌≡◌, ◌⊎◌, ◌≤◌, ℕ, ◌+◌, List, [], ◌∷◌, Option, Some, None, Bool, true, false, length, take, slice_get}
+use Rattle.std.specs.Prelude.{◌≡◌, ◌⊎◌, ◌≤◌, ℕ, ◌+◌, List, [], ◌∷◌, Option, Some, None, true, length, take, slice_get}
 use Rattle.fs_base.specs.Config.{Settings}
 use Rattle.fs_base.specs.declared.call.Request.{Request}
 use Rattle.fs_base.specs.declared.ids.ClientId.{ClientId}
 use Rattle.txn_task.specs.declared.messages.Entry.{Entry}
 use Rattle.meta_task.specs.Task.{TaskView}
-use Rattle.client_core.specs.Ops.{request_of}
+use Rattle.client_core.specs.Single.{IsClient, single_request}
 use Rattle.client_core.specs.Plans.{IsScript}
 use Rattle.client_core.specs.declared.plan.Op.{Op}
 use Rattle.client_core.specs.declared.plan.Script.{Script}
@@ -51,7 +51,7 @@ AreNamed journal client receipts = (place : ℕ) (entry : Entry) → EntryAt jou
 pub record IsUnderWay (C : Settings) (attempts : ℕ) (journal : List Entry) (script : Script) (op : ℕ) (receipts : List Listed) (front : ℕ) (task : TaskView) : Type 0 where
   pub step : Op
   pub there : slice_get script.ops op ≡ Some step
-  pub request : task.request ≡ request_of script op step
+  pub request : task.request ≡ single_request script op step
   pub from : version_after 0 receipts ≤ front
   pub front_in : front ≤ length journal
   pub named : AreNamedOr journal script.id receipts task.request (last_version front task.conflicts)
@@ -65,14 +65,15 @@ pub record IsWork (C : Settings) (attempts : ℕ) (journal : List Entry) (script
 -- ---- the client
 
 -- nothing is under way, or one request is
-abbrev pub IsWorking : Settings → ℕ → List Entry → Script → ℕ → List Listed → Bool → Option Work → Type 0
-IsWorking C attempts journal script op receipts false None = AreNamed journal script.id receipts
-IsWorking C attempts journal script op receipts true (Some work) = IsWork C attempts journal script op receipts work
-IsWorking C attempts journal script op receipts sent work = ⊥
+abbrev pub IsWorking : Settings → ℕ → List Entry → Script → ℕ → List Listed → Option Request → Option Work → Type 0
+IsWorking C attempts journal script op receipts None None = AreNamed journal script.id receipts
+IsWorking C attempts journal script op receipts (Some request) (Some work) = IsWork C attempts journal script op receipts work
+IsWorking C attempts journal script op receipts under_way work = ⊥
 
 -- what holds of each client, after every turn of any
 pub record IsSeat (C : Settings) (attempts : ℕ) (journal : List Entry) (k : ℕ) (seat : Seat) : Type 0 where
   pub config : seat.client.config ≡ C
   pub script : IsScript C.servers seat.client.script
+  pub client : IsClient seat.client
   pub past : IsPast C attempts journal k seat.client.script seat.client.op seat.receipts
-  pub working : IsWorking C attempts journal seat.client.script seat.client.op seat.receipts seat.client.sent seat.work
+  pub working : IsWorking C attempts journal seat.client.script seat.client.op seat.receipts seat.client.request seat.work

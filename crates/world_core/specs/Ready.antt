@@ -6,7 +6,7 @@ use Rattle.txn_task.specs.declared.messages.Ask.TheVariants as asks
 use Rattle.txn_task.specs.declared.messages.Entry.{Entry}
 use Rattle.txn_task.specs.declared.outcome.Outcome.{Outcome}
 use Rattle.meta_task.specs.Task.{TaskView}
-use Rattle.client_core.specs.Client.{receipt_of}
+use Rattle.client_core.specs.Single.{single_receipt}
 use Rattle.client_core.specs.Ops.{call_of}
 use Rattle.client_core.specs.declared.plan.Op.{Op}
 use Rattle.client_core.specs.declared.plan.Script.{Script}
@@ -18,12 +18,12 @@ use Rattle.request_run.specs.Served.{IsPending}
 use Rattle.world_core.specs.Kept.{IsUnderWay, AreNamed, version_after}
 
 -- the receipt of an outcome
-abbrev pub listed_of : Settings → ℕ → ℕ → Op → ℕ → ℕ → Outcome → Listed
-listed_of C k op step server front outcome =
+abbrev pub listed_of : Settings → ℕ → Script → ℕ → Op → ℕ → Outcome → Listed
+listed_of C k script op step front outcome =
     record {
       client = k;
       fronts = fronts_of C front;
-      receipt = receipt_of op step server outcome;
+      receipt = single_receipt script op step outcome;
       text = text_of (call_of step) outcome.reply;
     }
 
@@ -32,11 +32,11 @@ pub record GoesOn (C : Settings) (attempts : ℕ) (journal : List Entry) (script
   pub pending : IsPending C task ask
 
 pub record HasEnded (C : Settings) (attempts : ℕ) (journal : List Entry) (k : ℕ) (script : Script) (op : ℕ) (receipts : List Listed) (front : ℕ) (step : Op) (outcome : Outcome) : Type 0 where
-  pub receipt : IsReceipt C attempts journal script.id (listed_of C k op step script.home front outcome)
+  pub receipt : IsReceipt C attempts journal script.id (listed_of C k script op step front outcome)
   pub from : version_after 0 receipts ≤ front
   pub above : front ≤ outcome.version
   pub within : seen_by outcome ≤ length journal
-  pub named : AreNamed journal script.id (receipts ++ listed_of C k op step script.home front outcome ∷ [])
+  pub named : AreNamed journal script.id (receipts ++ listed_of C k script op step front outcome ∷ [])
 
 -- after an answer: the next ask waits, or there is an outcome
 abbrev pub IsReady : Settings → ℕ → List Entry → ℕ → Script → ℕ → List Listed → ℕ → TaskView → Ask → Type 0

@@ -3,7 +3,8 @@
 ghost use Rattle.std.specs.Prelude.{◌≡◌, ◌⊎◌, ◌≤◌, ◌<◌, ◌+◌, ◌++◌, ◌∷◌, ◌^◌, [], ℕ, List, Some, None, true, false, length, slice_get, replicate, IfOk, OnOk};
 ghost use Rattle.client_core.specs.Client.{end_call, send, IsSending};
 ghost use Rattle.client_core.specs.declared.messages.ClientAsk.TheVariants as client_asks;
-ghost use Rattle.client_core.specs.declared.plan.Op.{Op};
+ghost use Rattle.client_core.specs.Single.{IsClient};
+ghost use Rattle.fs_base.specs.declared.call.Request.{Request as RequestView};
 ghost use Rattle.meta_task.specs.Task.{new_task, MayTake};
 ghost use Rattle.txn_task.specs.declared.messages.Answer.{Answer as AnswerView};
 ghost use Rattle.txn_task.specs.declared.messages.Entry.{Entry};
@@ -56,7 +57,7 @@ fn take_work(seat: &mut Seat) -> Option<Work>
 
 /// The client's next step, where nothing is under way.
 fn next_step(seat: &mut Seat) -> Result<ClientAsk, Memory>
-    requires { seat.old.client.sent ≡ false }
+    requires { seat.old.client.request ≡ None }
     ensures seat { OnOk result (seat.new ≡ record seat.old { client = (send seat.old.client (slice_get seat.old.client.script.ops seat.old.client.op)).0 }) }
     ensures ask { IfOk result (λ ask. ask ≡ (send seat.old.client (slice_get seat.old.client.script.ops seat.old.client.op)).1) }
     ensures valid { IfOk result (λ ask. IsSending seat.old.client.config ask) }
@@ -160,10 +161,9 @@ fn only(receipts: Items<Receipt>) -> Receipt
 
 /// The client learns what its call came to, and keeps a receipt.
 fn learn(client: &mut ClientState, server: u8, outcome: Outcome) -> Result<Receipt, Memory>
-    requires sent { client.old.sent ≡ true }
-    requires there { (step : Op) × (slice_get client.old.script.ops client.old.op ≡ Some step) }
-    ensures client { OnOk result (client.new ≡ (end_call client.old server outcome (slice_get client.old.script.ops client.old.op)).0) }
-    ensures receipt { IfOk result (λ receipt. client_asks.CallEnd (receipt ∷ []) true ≡ (end_call client.old server outcome (slice_get client.old.script.ops client.old.op)).1) }
+    requires { (request : RequestView) × (client.old.request ≡ Some request) }
+    ensures client { OnOk result (client.new ≡ (end_call client.old server outcome client.old.request).0) }
+    ensures receipt { IfOk result (λ receipt. client_asks.CallEnd (receipt ∷ []) true ≡ (end_call client.old server outcome client.old.request).1) }
     ensures script { client.new.script ≡ client.old.script }
 {
     match client.next(ClientAnswer::Replied(server, outcome))? {
@@ -199,7 +199,8 @@ fn finish(
     requires config { seat.old.client.config ≡ config }
     requires valid { IsScript config.servers seat.old.client.script }
     requires idle { seat.old.work ≡ None }
-    requires sent { seat.old.client.sent ≡ true }
+    requires client { IsClient seat.old.client }
+    requires sent { (request : RequestView) × (seat.old.client.request ≡ Some request) }
     requires past { IsPast config _attempts (entries_of _store.now.journal) k seat.old.client.script seat.old.client.op seat.old.receipts }
     requires server { server ≡ seat.old.client.script.home }
     requires ready { IsReady config _attempts (entries_of _store.now.journal) k seat.old.client.script seat.old.client.op seat.old.receipts front task asks.Done }
@@ -240,7 +241,8 @@ fn settle(
     requires config { seat.old.client.config ≡ config }
     requires valid { IsScript config.servers seat.old.client.script }
     requires idle { seat.old.work ≡ None }
-    requires sent { seat.old.client.sent ≡ true }
+    requires client { IsClient seat.old.client }
+    requires sent { (request : RequestView) × (seat.old.client.request ≡ Some request) }
     requires past { IsPast config attempts (entries_of store.now.journal) k seat.old.client.script seat.old.client.op seat.old.receipts }
     requires server { work.server ≡ seat.old.client.script.home }
     requires ready { IsReady config attempts (entries_of store.now.journal) k seat.old.client.script seat.old.client.op seat.old.receipts work.front work.task work.ask }
