@@ -32,7 +32,7 @@ use Rattle.request_run.specs.Served.{AreOthers, EachOf, HasMet, IsBegun, IsOwn, 
 -- ---- entries
 
 -- an entry of the longer journal is an old one, or one of those behind it
-at_either : (es more : List Entry) (place : ℕ) (e : Entry) → EntryAt (es ++ more) place e → EntryAt es place e ⊎ ((behind : ℕ) × (place ≡ length es + behind) × EntryAt more behind e)
+pub at_either : (es more : List Entry) (place : ℕ) (e : Entry) → EntryAt (es ++ more) place e → EntryAt es place e ⊎ ((behind : ℕ) × (place ≡ length es + behind) × EntryAt more behind e)
 at_either [] more place e at = inr (place, omega arith, at)
 at_either (x ∷ es) more zero e at = inl at
 at_either (x ∷ es) more (suc place) e at = elim (at_either es more place e at) [
