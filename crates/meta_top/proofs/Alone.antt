@@ -40,7 +40,7 @@ use Rattle.run_record.specs.declared.run.Listed.{Listed}
 use Rattle.run_record.specs.declared.run.Record.{Record}
 use Rattle.world_core.specs.Order.{IsKept, IsOrdered}
 use Rattle.world_core.specs.World.{IsOpening, WorldView}
-use Rattle.world_core.proofs.Growth.{EntryAt_within}
+use Rattle.histories.proofs.Lists.{at_within}
 use Rattle.meta_top.specs.Alone.{commits, listed, receipt_of, receipts_from, receipts_of, version_after}
 use Rattle.meta_top.specs.Top.{IsRunOf}
 use Rattle.meta_top.proofs.Marks.{IsNewIn, entry_mark, kept_after, length_free, told_mark}
@@ -238,7 +238,7 @@ of_section C attempts script journal own some short replies entries section name
   where
     mine : (place : ℕ) (e : Entry) → EntryAt journal place e → IsOwn script e
     mine place e at = record {
-      client = own_entry C attempts journal script.id own section.each place e at (named place (omega arith) (EntryAt_within journal place e at));
+      client = own_entry C attempts journal script.id own section.each place e at (named place (omega arith) (at_within journal place e at));
       update = (entries place e at).update;
       accepted = (entries place e at).accepted;
     }

@@ -11,11 +11,12 @@ use Rattle.run_record.specs.Follow.{Follow}
 use Rattle.run_record.specs.Receipts.{front_of, AreLater, AreReceipts, IsSection, NamesLater}
 use Rattle.run_record.specs.Right.{AreSections, conflicts_in}
 use Rattle.run_record.specs.declared.run.Listed.{Listed}
+use Rattle.histories.proofs.Lists.{at_within}
+use Rattle.run_record.proofs.Counts.{conflicts-append}
 use Rattle.run_record.proofs.Replaying.{follows}
 use Rattle.run_record.proofs.Served.{served}
 use Rattle.world_core.specs.World.{receipts_in}
 use Rattle.world_core.specs.declared.seats.Seat.{Seat}
-use Rattle.world_core.proofs.Growth.{EntryAt_within}
 
 pub receipts-push : (seats : List Seat) (seat : Seat) → receipts_in (seats ++ seat ∷ []) ≡ receipts_in seats ++ seat.receipts
 receipts-push [] seat = append-nil seat.receipts
@@ -31,7 +32,7 @@ conflicts_above journal client floor (pair ∷ pairs) h low =
     let one : NamesLater journal client floor pair = h.0 in
     let a : floor ≤ one.place = one.later in
     let d : pair.0 ≡ one.place + 1 = one.version in
-    let e : one.place < length journal = EntryAt_within journal one.place one.entry one.at in
+    let e : one.place < length journal = at_within journal one.place one.entry one.at in
     let rest : pair.0 + length pairs ≤ length journal = conflicts_above journal client pair.0 pairs h.1 (omega arith) in
     omega arith
 
@@ -40,17 +41,11 @@ conflicts_few journal client floor [] h = omega arith
 conflicts_few journal client floor (pair ∷ pairs) h =
     let one : NamesLater journal client floor pair = h.0 in
     let d : pair.0 ≡ one.place + 1 = one.version in
-    let e : one.place < length journal = EntryAt_within journal one.place one.entry one.at in
+    let e : one.place < length journal = at_within journal one.place one.entry one.at in
     let rest : pair.0 + length pairs ≤ length journal = conflicts_above journal client pair.0 pairs h.1 (omega arith) in
     omega arith
 
 -- ---- all receipts
-
-conflicts_both : (own rest : List Listed) → conflicts_in (own ++ rest) ≡ conflicts_in own + conflicts_in rest
-conflicts_both [] rest = omega arith
-conflicts_both (listed ∷ own) rest =
-    let both : conflicts_in (own ++ rest) ≡ conflicts_in own + conflicts_in rest = conflicts_both own rest in
-    omega arith
 
 module _ (C : Settings) (attempts : ℕ) (journal : List Entry) (short : length journal ≤ 200000) where
   receipts_few : (client : ClientId) (receipts : List Listed) → AreReceipts C attempts journal client receipts → conflicts_in receipts ≤ length receipts * 200000
@@ -75,7 +70,7 @@ module _ (C : Settings) (attempts : ℕ) (journal : List Entry) (short : length 
       let own : List Listed = h.0 in
       let rest : List Listed = h.1 in
       let section : IsSection C attempts journal k script own = h.3 in
-      let parts : conflicts_in receipts ≡ conflicts_in own + conflicts_in rest = ap (λ (rs : List Listed). conflicts_in rs) h.2 ∙ conflicts_both own rest in
+      let parts : conflicts_in receipts ≡ conflicts_in own + conflicts_in rest = ap (λ (rs : List Listed). conflicts_in rs) h.2 ∙ conflicts-append own rest in
       let first : conflicts_in own ≤ length own * 200000 = receipts_few script.id own section.each in
       let count : length own ≡ length script.ops = follow_length k script 0 script.ops own (follows C attempts journal k script own section) in
       let others : conflicts_in rest ≤ ops_in scripts * 200000 = sections_few (k + 1) scripts rest h.4 in

@@ -1,14 +1,9 @@
 pub mod Ahead
-pub mod Calls
 pub mod Closing
 pub mod Counting
-pub mod Ends
 pub mod EventLaws
-pub mod Growth
-pub mod Named
 pub mod OrderLaws
+pub mod Receiving
 pub mod Righting
 pub mod Seating
-pub mod Steps
-pub mod Taking
-pub mod Tasks
+pub mod Working
