@@ -1,6 +1,6 @@
 //! Scripts told ask by ask. Expected asks are worked out from the form of requests and receipts.
 
-ghost use Rattle.std.specs.Prelude.{◌≡◌, ◌≤◌, false, length, All, IfOk};
+ghost use Rattle.std.specs.Prelude.{◌≡◌, ◌≤◌, None, length, All, IfOk};
 ghost use Rattle.client_core.specs.Awaiting.{Awaits};
 ghost use Rattle.client_core.specs.Client.{Fits};
 ghost use Rattle.client_core.specs.Plans.{IsOp, IsPlace};
@@ -49,7 +49,7 @@ fn two(alloc: Global) -> Result<Items<Op>, Memory>
 fn client(alloc: Global, ops: Items<Op>) -> Result<ClientState, Fail>
     requires few { length ops ≤ 4000 }
     requires valid { All IsOp ops }
-    ensures { IfOk result (λ client. client.sent ≡ false) }
+    ensures { IfOk result (λ client. client.request ≡ None) }
 {
     let config = Config::new(3, 1, 1, 1, 1).ok_or("no configuration")?;
     Ok(ClientState::new(
@@ -84,8 +84,8 @@ fn outcome(alloc: Global, number: u64) -> Result<Outcome, Memory> {
 }
 
 fn next(client: &mut ClientState, answer: ClientAnswer) -> Result<ClientAsk, Memory>
-    requires { Fits client.old.sent answer }
-    ensures { IfOk result (λ ask. Awaits client.new.sent ask) }
+    requires { Fits client.old.request answer }
+    ensures { IfOk result (λ ask. Awaits client.new.request ask) }
 {
     let ask = client.next(answer)?;
     Ok(ask)
@@ -93,8 +93,8 @@ fn next(client: &mut ClientState, answer: ClientAnswer) -> Result<ClientAsk, Mem
 
 /// The next ask. Server 1 does each request.
 fn turn(alloc: Global, client: &mut ClientState, ask: &ClientAsk) -> Result<ClientAsk, Memory>
-    requires { Awaits client.old.sent ask.now }
-    ensures { IfOk result (λ ask. Awaits client.new.sent ask) }
+    requires { Awaits client.old.request ask.now }
+    ensures { IfOk result (λ ask. Awaits client.new.request ask) }
 {
     match ask {
         ClientAsk::Send { request, .. } => {
@@ -122,8 +122,8 @@ fn told(
     ask: &ClientAsk,
     line: &str,
 ) -> Result<ClientAsk, Memory>
-    requires { Awaits client.old.sent ask.now }
-    ensures { IfOk result (λ ask. Awaits client.new.sent ask) }
+    requires { Awaits client.old.request ask.now }
+    ensures { IfOk result (λ ask. Awaits client.new.request ask) }
 {
     let got = line_of(rt.alloc(), client, ask)?;
     assert_eq!(rt; got.as_str(), line);
@@ -136,7 +136,7 @@ fn tells(
     client: &mut ClientState,
     want: &str,
 ) -> Result<(), Memory>
-    requires { client.old.sent ≡ false }
+    requires { client.old.request ≡ None }
 {
     let mut ask = next(client, ClientAnswer::Start)?;
     for line in want.split('\n') {

@@ -14,6 +14,7 @@ use Rattle.client_core.specs.Plans.{IsOp, IsPlace, IsLayout, IsChanges, IsScript
 use Rattle.client_core.specs.declared.plan.Op.{Op}
 use Rattle.client_core.specs.declared.plan.Op.TheVariants as ops
 use Rattle.fs_base.specs.Config.{Settings}
+use Rattle.fs_base.specs.declared.ids.ClientId.{ClientId}
 use Rattle.path_walk.specs.Requests.{IsRequest}
 use Rattle.tree_model.specs.Calls.{is_built}
 use Rattle.client_core.specs.Ops.{call_of, request_of, stamp_of, HasBytes}
@@ -140,8 +141,5 @@ built (ops.Stat stamp p) = refl
 built (ops.List stamp p) = refl
 built (ops.Readlink stamp p) = refl
 
-pub valid_request : (C : Settings) (script : Script) (op : ℕ) (step : Op) → script.home < C.servers → IsOp step → HasBytes step → IsRequest C (request_of script op step)
-valid_request C script op step home valid are = record { server = home; number = omega arith; call = op_fits step valid are; built = built step }
-
-pub valid_next : (C : Settings) (script : Script) (op : ℕ) (step : Op) → IsScript C.servers script → op < length script.ops → step ≡ get_or script.ops op step → HasBytes step → IsRequest C (request_of script op step)
-valid_next C script op step is below found are = valid_request C script op step is.home (subst IsOp (sym found) (is.valid op step below)) are
+pub valid_request : (C : Settings) (client : ClientId) (server number : ℕ) (step : Op) → server < C.servers → 1 ≤ number → IsOp step → HasBytes step → IsRequest C (request_of client server number step)
+valid_request C client server number step below from valid are = record { server = below; number = from; call = op_fits step valid are; built = built step }

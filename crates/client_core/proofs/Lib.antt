@@ -1,1 +1,4 @@
+pub mod Ending
 mod Fits
+pub mod Scripts
+pub mod Single

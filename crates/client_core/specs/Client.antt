@@ -1,11 +1,11 @@
 -- A client's place in its script, and its steps.
-use Rattle.std.specs.Prelude.{◌≡◌, ◌≤◌, ◌<◌, ℕ, ◌+◌, nat_le, [], ◌∷◌, length, slice_get, Option, Some, None, Bool, true, false, if◌then◌else◌}
+use Rattle.std.specs.Prelude.{◌≡◌, ◌≤◌, ◌<◌, ℕ, ◌+◌, nat_le, List, [], ◌∷◌, length, slice_get, is_some, Option, Some, None, Bool, true, false, if◌then◌else◌}
 use Rattle.fs_base.specs.Config.{Settings}
+use Rattle.fs_base.specs.declared.call.Request.{Request}
 use Rattle.path_walk.specs.Requests.{IsRequest}
 use Rattle.txn_task.specs.declared.outcome.Outcome.{Outcome}
 use Rattle.txn_task.specs.declared.outcome.Receipt.{Receipt}
-use Rattle.client_core.specs.Ops.{call_of, stamp_of, request_of}
-use Rattle.client_core.specs.Plans.{IsScript}
+use Rattle.client_core.specs.Ops.{receipt_of, request_of}
 use Rattle.client_core.specs.declared.messages.ClientAnswer.{ClientAnswer}
 use Rattle.client_core.specs.declared.messages.ClientAnswer.TheVariants as answers
 use Rattle.client_core.specs.declared.messages.ClientAsk.{ClientAsk}
@@ -18,62 +18,48 @@ pub record ClientView : Type 0 where
   pub script : Script
   -- how many operations have ended
   pub op : ℕ
-  -- whether the next one's request is under way
-  pub sent : Bool
+  -- how many request numbers are used
+  pub number : ℕ
+  -- the server that it sends to
+  pub server : ℕ
+  -- the stops that took away the request of the call under way
+  pub gone : List (ℕ × ℕ)
+  -- the request under way
+  pub request : Option Request
   -- whether memory was wanting
   pub failed : Bool
 
 abbrev pub new_client : Settings → Script → ClientView
-new_client C script = record { config = C; script = script; op = 0; sent = false; failed = false }
-
--- a request is under way only where its operation is there
-abbrev pub IsSent : ClientView → Bool → Type 0
-IsSent c true = c.op < length c.script.ops
-IsSent c false = c.op ≤ length c.script.ops
-
-pub record IsClient (c : ClientView) : Type 0 where
-  pub script : IsScript c.config.servers c.script
-  pub place : IsSent c c.sent
+new_client C script = record { config = C; script = script; op = 0; number = 0; server = script.home; gone = []; request = None; failed = false }
 
 -- ---- answers
 
 -- the answer is one for what the client waits for
-abbrev pub Fits : Bool → ClientAnswer → Type 0
-Fits false answers.Start = Unit {0}
-Fits false answers.Next = Unit {0}
-Fits true (answers.Replied server outcome) = Unit {0}
-Fits sent answer = ⊥
+abbrev pub Fits : Option Request → ClientAnswer → Type 0
+Fits None answers.Start = Unit {0}
+Fits None answers.Next = Unit {0}
+Fits (Some request) (answers.Replied server outcome) = Unit {0}
+Fits under_way answer = ⊥
 
 -- ---- steps
 
--- what is kept of an operation's call
-abbrev pub receipt_of : ℕ → Op → ℕ → Outcome → Receipt
-receipt_of op step server outcome =
-    record {
-      op = op;
-      number = Some (op + 1);
-      server = Some server;
-      stamp = stamp_of step;
-      call = call_of step;
-      reply = outcome.reply;
-      committed = outcome.committed;
-      version = outcome.version;
-      conflicts = outcome.conflicts;
-      gone = [];
-    }
+-- the next request is this operation's: it takes the next number, and goes to the present server
+abbrev pub next_request : ClientView → Op → Request
+next_request c step = request_of c.script.id c.server (c.number + 1) step
 
--- the next operation's request, if there is one
+-- it is sent, if there is such an operation
 abbrev pub send : ClientView → Option Op → ClientView × ClientAsk
 send c None = (c, asks.Ended)
-send c (Some step) = (record c { sent = true }, asks.Send c.script.home (request_of c.script c.op step))
+send c (Some step) = (record c { number = c.number + 1; request = Some (next_request c step) }, asks.Send c.server (next_request c step))
 
--- the operation under way has ended
-abbrev pub end_call : ClientView → ℕ → Outcome → Option Op → ClientView × ClientAsk
+-- the request under way was answered, and with it its operation has ended
+abbrev pub end_call : ClientView → ℕ → Outcome → Option Request → ClientView × ClientAsk
 end_call c server outcome None = (c, asks.Ended)
-end_call c server outcome (Some step) = (record c { op = c.op + 1; sent = false }, asks.CallEnd (receipt_of c.op step server outcome ∷ []) true)
+end_call c server outcome (Some request) =
+    (record c { op = c.op + 1; gone = []; request = None }, asks.CallEnd (receipt_of c.op request server c.gone outcome ∷ []) true)
 
 abbrev pub client_step : ClientView → ClientAnswer → ClientView × ClientAsk
-client_step c (answers.Replied server outcome) = end_call c server outcome (slice_get c.script.ops c.op)
+client_step c (answers.Replied server outcome) = end_call c server outcome c.request
 client_step c answer = send c (slice_get c.script.ops c.op)
 
 -- a request that is sent is one that its server takes
@@ -83,4 +69,4 @@ IsSending C ask = Unit {0}
 
 -- nothing is under way or left
 abbrev pub has_ended : ClientView → Bool
-has_ended c = if c.sent then false else nat_le (length c.script.ops) c.op
+has_ended c = if is_some c.request then false else nat_le (length c.script.ops) c.op

@@ -1,12 +1,14 @@
--- The call of an operation, its time, and its request.
-use Rattle.std.specs.Prelude.{◌≡◌, ℕ, ◌+◌, true}
+-- The call of an operation, its time, its requests, and what is kept of them.
+use Rattle.std.specs.Prelude.{◌≡◌, ℕ, List, Some, true}
 use Rattle.byte_fields.specs.Forms.{are_bytes}
 use Rattle.fs_base.specs.declared.call.Call.{Call}
 use Rattle.fs_base.specs.declared.call.Call.TheVariants as calls
 use Rattle.fs_base.specs.declared.call.Request.{Request}
+use Rattle.fs_base.specs.declared.ids.ClientId.{ClientId}
+use Rattle.txn_task.specs.declared.outcome.Outcome.{Outcome}
+use Rattle.txn_task.specs.declared.outcome.Receipt.{Receipt}
 use Rattle.client_core.specs.declared.plan.Op.{Op}
 use Rattle.client_core.specs.declared.plan.Op.TheVariants as ops
-use Rattle.client_core.specs.declared.plan.Script.{Script}
 
 abbrev pub call_of : Op → Call
 call_of (ops.Mkdir stamp place mode layout) = calls.Mkdir place mode layout
@@ -34,9 +36,25 @@ stamp_of (ops.Stat stamp place) = stamp
 stamp_of (ops.List stamp place) = stamp
 stamp_of (ops.Readlink stamp place) = stamp
 
--- an operation sends one request, to the client's server; the numbers count from 1
-abbrev pub request_of : Script → ℕ → Op → Request
-request_of script op step = record { server = script.home; client = script.id; number = op + 1; stamp = stamp_of step; call = call_of step }
+-- a client's request of an operation: to a server, by a number
+abbrev pub request_of : ClientId → ℕ → ℕ → Op → Request
+request_of client server number step = record { server = server; client = client; number = number; stamp = stamp_of step; call = call_of step }
+
+-- what is kept of a request's call: the request's number, the server that answered, and the stops that took the request away
+abbrev pub receipt_of : ℕ → Request → ℕ → List (ℕ × ℕ) → Outcome → Receipt
+receipt_of op request server gone outcome =
+    record {
+      op = op;
+      number = Some request.number;
+      server = Some server;
+      stamp = request.stamp;
+      call = request.call;
+      reply = outcome.reply;
+      committed = outcome.committed;
+      version = outcome.version;
+      conflicts = outcome.conflicts;
+      gone = gone;
+    }
 
 -- each text of the operation is one of bytes
 abbrev pub HasBytes : Op → Type 0

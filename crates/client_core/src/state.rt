@@ -1,37 +1,46 @@
-ghost use Rattle.std.specs.Prelude.{◌≡◌, ◌<◌, false, true, slice_get, IfOk, OnOk, OnErr};
+ghost use Rattle.std.specs.Prelude.{◌≡◌, None, false, true, option_map, slice_get, IfOk, IfSome, OnOk, OnErr};
 ghost use Rattle.client_core.specs.Awaiting.{Awaits};
-ghost use Rattle.client_core.specs.Client.{client_step, end_call, has_ended, new_client, send, Fits, IsSending};
+ghost use Rattle.client_core.specs.Client.{client_step, end_call, has_ended, new_client, next_request, send, Fits, IsSending};
 ghost use Rattle.client_core.specs.Plans.{IsScript};
+ghost use Rattle.path_walk.specs.Requests.{IsRequest};
 
 use crate::messages::{ClientAnswer, ClientAsk};
 use crate::plan::Script;
-use crate::steps::{next_request, receipts_of};
-use fs_base::{ClientId, Config, Memory};
+use crate::steps::{copy_of, receipts_of, request_of};
+use fs_base::{ClientId, Config, Items, Memory, Request};
 use std::alloc::Global;
 use std::marker::Model;
 use txn_task::Outcome;
 
 /// A client on its way through its script.
 ///
-/// Its requests are numbered from 1, one an operation, and each operation's call ends with one receipt.
+/// Its requests are numbered from 1 and go to its present server; each call ends with one receipt.
 #[derive(Debug, Drop)]
 pub struct ClientState {
     alloc: Global,
     config: Config,
     script: Script,
     op: u16,
-    sent: bool,
+    /// How many request numbers are used.
+    number: u64,
+    /// The one that it sends to.
+    server: u8,
+    /// The stops that took away the request of the call under way.
+    gone: Items<(u8, u32)>,
+    /// The one under way.
+    request: Option<Request>,
     failed: bool,
 }
 
 impl Model for ClientState {
-    ghost use Rattle.client_core.specs.Client.{ClientView, IsClient};
+    ghost use Rattle.client_core.specs.Client.{ClientView};
+    ghost use Rattle.client_core.specs.Single.{IsClient};
 
     ghost Value = { ClientView };
 
-    ghost view = { λ c. record { config = c.config; script = c.script; op = c.op; sent = c.sent; failed = c.failed } };
+    ghost view = { λ c. record { config = c.config; script = c.script; op = c.op; number = c.number; server = c.server; gone = c.gone; request = c.request; failed = c.failed } };
 
-    ghost invariant = { λ c. IsClient (record { config = c.config; script = c.script; op = c.op; sent = c.sent; failed = c.failed }) };
+    ghost invariant = { λ c. IsClient (record { config = c.config; script = c.script; op = c.op; number = c.number; server = c.server; gone = c.gone; request = c.request; failed = c.failed }) };
 }
 
 impl ClientState {
@@ -40,12 +49,16 @@ impl ClientState {
         requires { IsScript config.servers script }
         ensures { IfOk result (λ client. client ≡ new_client config script) }
     {
+        let server = script.home;
         Ok(ClientState {
             alloc,
             config,
             script,
             op: 0,
-            sent: false,
+            number: 0,
+            server,
+            gone: Items::new(alloc),
+            request: None,
             failed: false,
         })
     }
@@ -54,12 +67,12 @@ impl ClientState {
     ///
     /// A client that had no memory for it answers want of memory from then on.
     pub fn next(&mut self, answer: ClientAnswer) -> Result<ClientAsk, Memory>
-        requires { Fits self.old.sent answer }
+        requires { Fits self.old.request answer }
         ensures alive { OnOk result (self.old.failed ≡ false) }
         ensures client { OnOk result (self.new ≡ (client_step self.old answer).0) }
         ensures ask { IfOk result (λ ask. ask ≡ (client_step self.old answer).1) }
         ensures valid { IfOk result (λ ask. IsSending self.old.config ask) }
-        ensures awaits { IfOk result (λ ask. Awaits self.new.sent ask) }
+        ensures awaits { IfOk result (λ ask. Awaits self.new.request ask) }
         ensures err { OnErr result (self.new ≡ record self.old { failed = true }) }
     {
         if self.failed {
@@ -72,11 +85,11 @@ impl ClientState {
     }
 
     fn step(&mut self, answer: ClientAnswer) -> Result<ClientAsk, Memory>
-        requires { Fits self.old.sent answer }
+        requires { Fits self.old.request answer }
         ensures client { OnOk result (self.new ≡ (client_step self.old answer).0) }
         ensures ask { IfOk result (λ ask. ask ≡ (client_step self.old answer).1) }
         ensures valid { IfOk result (λ ask. IsSending self.old.config ask) }
-        ensures awaits { IfOk result (λ ask. Awaits self.new.sent ask) }
+        ensures awaits { IfOk result (λ ask. Awaits self.new.request ask) }
         ensures err { OnErr result (self.new ≡ self.old) }
     {
         match answer {
@@ -91,42 +104,62 @@ impl ClientState {
         }
     }
 
+    /// The next operation's request, if there is one.
+    fn next_request(&self) -> Result<Option<Request>, Memory>
+        requires { self.now.request ≡ None }
+        ensures gives { IfOk result (λ request. request ≡ option_map (next_request self.now) (slice_get self.now.script.ops self.now.op)) }
+        ensures valid { IfOk result (λ request. IfSome request (IsRequest self.now.config)) }
+    {
+        let Some(step) = self.script.ops.as_slice().get(usize::from(self.op)) else {
+            return Ok(None);
+        };
+        let request = request_of(
+            self.alloc,
+            self.config,
+            self.script.id,
+            self.server,
+            self.number + 1,
+            step,
+        )?;
+        Ok(Some(request))
+    }
+
     /// Sends the next operation's request, if there is one.
     fn send(&mut self) -> Result<ClientAsk, Memory>
-        requires { self.old.sent ≡ false }
+        requires { self.old.request ≡ None }
         ensures client { OnOk result (self.new ≡ (send self.old (slice_get self.old.script.ops self.old.op)).0) }
         ensures ask { IfOk result (λ ask. ask ≡ (send self.old (slice_get self.old.script.ops self.old.op)).1) }
         ensures valid { IfOk result (λ ask. IsSending self.old.config ask) }
-        ensures awaits { IfOk result (λ ask. Awaits self.new.sent ask) }
+        ensures awaits { IfOk result (λ ask. Awaits self.new.request ask) }
         ensures err { OnErr result (self.new ≡ self.old) }
     {
-        match next_request(self.alloc, self.config, &self.script, self.op)? {
-            Some(request) => {
-                self.sent = true;
-                Ok(ClientAsk::Send {
-                    server: self.script.home,
-                    request,
-                })
-            }
-            None => Ok(ClientAsk::Ended),
-        }
+        let Some(request) = self.next_request()? else {
+            return Ok(ClientAsk::Ended);
+        };
+        let copy = copy_of(self.alloc, &request)?;
+        self.number += 1;
+        self.request = Some(copy);
+        Ok(ClientAsk::Send {
+            server: self.server,
+            request,
+        })
     }
 
     /// Ends the operation under way.
     fn end_call(&mut self, server: u8, outcome: Outcome) -> Result<ClientAsk, Memory>
-        requires { self.old.sent ≡ true }
-        ensures client { OnOk result (self.new ≡ (end_call self.old server outcome (slice_get self.old.script.ops self.old.op)).0) }
-        ensures ask { IfOk result (λ ask. ask ≡ (end_call self.old server outcome (slice_get self.old.script.ops self.old.op)).1) }
+        ensures client { OnOk result (self.new ≡ (end_call self.old server outcome self.old.request).0) }
+        ensures ask { IfOk result (λ ask. ask ≡ (end_call self.old server outcome self.old.request).1) }
         ensures valid { IfOk result (λ ask. IsSending self.old.config ask) }
-        ensures awaits { IfOk result (λ ask. Awaits self.new.sent ask) }
+        ensures awaits { IfOk result (λ ask. Awaits self.new.request ask) }
         ensures err { OnErr result (self.new ≡ self.old) }
     {
-        let Some(step) = self.script.ops.as_slice().get(usize::from(self.op)) else {
+        let Some(request) = &self.request else {
             return Ok(ClientAsk::Ended);
         };
-        let receipts = receipts_of(self.alloc, self.op, step, server, outcome)?;
+        let receipts = receipts_of(self.alloc, self.op, request, server, &self.gone, outcome)?;
         self.op += 1;
-        self.sent = false;
+        self.gone = Items::new(self.alloc);
+        self.request = None;
         Ok(ClientAsk::CallEnd {
             receipts,
             op_ends: true,
@@ -143,7 +176,7 @@ impl ClientState {
     pub fn has_ended(&self) -> bool
         ensures { result ≡ has_ended self.now }
     {
-        !self.sent && self.script.ops.len() <= usize::from(self.op)
+        self.request.is_none() && self.script.ops.len() <= usize::from(self.op)
     }
 
     /// How many operations have ended.

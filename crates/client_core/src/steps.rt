@@ -1,14 +1,13 @@
-//! The requests and receipts of a script.
+//! The requests and receipts of operations.
 
-ghost use Rattle.std.specs.Prelude.{◌≡◌, [], ◌∷◌, true, option_map, slice_get, IfOk, IfSome};
+ghost use Rattle.std.specs.Prelude.{◌≡◌, ◌≤◌, ◌<◌, [], ◌∷◌, true, IfOk};
 ghost use Rattle.byte_fields.specs.Forms.{are_bytes};
-ghost use Rattle.client_core.specs.Client.{receipt_of};
-ghost use Rattle.client_core.specs.Ops.{call_of, request_of, stamp_of, HasBytes};
-ghost use Rattle.client_core.specs.Plans.{IsScript};
+ghost use Rattle.client_core.specs.Ops.{call_of, receipt_of, request_of, stamp_of, HasBytes};
+ghost use Rattle.client_core.specs.Plans.{IsOp};
 ghost use Rattle.path_walk.specs.Requests.{IsRequest};
 
-use crate::plan::{Op, Script};
-use fs_base::{Call, Config, Items, Memory, Request};
+use crate::plan::Op;
+use fs_base::{Call, ClientId, Config, Items, Memory, Request};
 use std::alloc::Global;
 use txn_task::{Outcome, Receipt};
 
@@ -107,74 +106,82 @@ fn call_of(alloc: Global, step: &Op) -> Result<Call, Memory>
     }
 }
 
-/// The request of an operation, to the client's server.
-fn request_of(alloc: Global, script: &Script, op: u16, step: &Op) -> Result<Request, Memory>
-    ensures { IfOk result (λ request. request ≡ request_of script.now op step.now) }
+/// A request of an operation, to a server and by a number.
+pub(crate) fn request_of(
+    alloc: Global,
+    config: Config,
+    client: ClientId,
+    server: u8,
+    number: u64,
+    step: &Op,
+) -> Result<Request, Memory>
+    requires op { IsOp step.now }
+    requires server { server < config.servers }
+    requires number { 1 ≤ number }
+    ensures is { IfOk result (λ request. request ≡ request_of client server number step.now) }
+    ensures valid { IfOk result (IsRequest config) }
 {
+    texts_are_bytes(step);
     Ok(Request {
-        server: script.home,
-        client: script.id,
-        number: u64::from(op) + 1,
+        server,
+        client,
+        number,
         stamp: stamp_of(step),
         call: call_of(alloc, step)?,
     })
 }
 
-/// The request of the operation at this place of a script, if there is one.
-pub(crate) fn next_request(
-    alloc: Global,
-    config: Config,
-    script: &Script,
-    op: u16,
-) -> Result<Option<Request>, Memory>
-    requires { IsScript config.servers script.now }
-    ensures gives { IfOk result (λ request. request ≡ option_map (request_of script.now op) (slice_get script.now.ops op)) }
-    ensures valid { IfOk result (λ request. IfSome request (IsRequest config)) }
+/// An equal request of its own.
+pub(crate) fn copy_of(alloc: Global, request: &Request) -> Result<Request, Memory>
+    ensures { IfOk result (λ copy. copy ≡ request.now) }
 {
-    let Some(step) = script.ops.as_slice().get(usize::from(op)) else {
-        return Ok(None);
-    };
-    texts_are_bytes(step);
-    let request = request_of(alloc, script, op, step)?;
-    Ok(Some(request))
+    Ok(Request {
+        server: request.server,
+        client: request.client,
+        number: request.number,
+        stamp: request.stamp,
+        call: request.call.try_clone(alloc)?,
+    })
 }
 
 fn receipt_of(
     alloc: Global,
     op: u16,
-    step: &Op,
+    request: &Request,
     server: u8,
+    gone: &Items<(u8, u32)>,
     outcome: Outcome,
 ) -> Result<Receipt, Memory>
-    ensures { IfOk result (λ receipt. receipt ≡ receipt_of op step.now server outcome) }
+    ensures { IfOk result (λ receipt. receipt ≡ receipt_of op request.now server gone.now outcome) }
 {
-    let stamp = stamp_of(step);
-    let call = call_of(alloc, step)?;
+    let call = request.call.try_clone(alloc)?;
+    let gone = gone.try_clone()?;
     Ok(Receipt {
         op,
-        number: Some(u64::from(op) + 1),
+        number: Some(request.number),
         server: Some(server),
-        stamp,
+        stamp: request.stamp,
         call,
         reply: outcome.reply,
         committed: outcome.committed,
         version: outcome.version,
         conflicts: outcome.conflicts,
-        gone: Items::new(alloc),
+        gone,
     })
 }
 
-/// The one receipt of an operation's call.
+/// The one receipt of a request's call.
 pub(crate) fn receipts_of(
     alloc: Global,
     op: u16,
-    step: &Op,
+    request: &Request,
     server: u8,
+    gone: &Items<(u8, u32)>,
     outcome: Outcome,
 ) -> Result<Items<Receipt>, Memory>
-    ensures { IfOk result (λ receipts. receipts ≡ receipt_of op step.now server outcome ∷ []) }
+    ensures { IfOk result (λ receipts. receipts ≡ receipt_of op request.now server gone.now outcome ∷ []) }
 {
-    let receipt = receipt_of(alloc, op, step, server, outcome)?;
+    let receipt = receipt_of(alloc, op, request, server, gone, outcome)?;
     let mut receipts = Items::new(alloc);
     receipts.push(receipt)?;
     Ok(receipts)

@@ -21,8 +21,9 @@ use Rattle.tree_model.specs.Tree.{Tree, new_tree}
 use Rattle.txn_task.specs.declared.messages.Entry.{Entry}
 use Rattle.txn_task.specs.declared.outcome.Outcome.{Outcome}
 use Rattle.txn_task.specs.declared.outcome.Receipt.{Receipt}
-use Rattle.client_core.specs.Ops.{call_of, request_of}
+use Rattle.client_core.specs.Ops.{call_of}
 use Rattle.client_core.specs.Plans.{IsPlan, ops_in}
+use Rattle.client_core.specs.Single.{single_request}
 use Rattle.client_core.specs.declared.plan.Op.{Op}
 use Rattle.client_core.specs.declared.plan.Op.TheVariants as ops
 use Rattle.client_core.specs.declared.plan.Plan.{Plan}
@@ -31,7 +32,7 @@ use Rattle.histories.proofs.Versions.{reply_at, tree_next}
 use Rattle.run_record.specs.Legal.{AreReplies, EntryAt, tree_at}
 use Rattle.run_record.specs.Outcomes.{last_version, version_before, IsSeen, IsTold, NamesEntry, Shows}
 use Rattle.run_record.specs.Follow.{Follow}
-use Rattle.run_record.specs.Receipts.{AreConflicts, AreReceipts, IsOf, IsSection, Rises, front_of, fronts_of, outcome_of}
+use Rattle.run_record.specs.Receipts.{AreLater, AreReceipts, HasStopped, IsOf, IsSection, Rises, front_of, fronts_of, outcome_of}
 use Rattle.run_record.specs.Replies.{replies_text}
 use Rattle.run_record.specs.ReplyText.{text_of}
 use Rattle.run_record.specs.Right.{AreSections, IsNoRefusal, IsRight, IsRightEntry}
@@ -39,27 +40,19 @@ use Rattle.run_record.specs.declared.run.Listed.{Listed}
 use Rattle.run_record.specs.declared.run.Record.{Record}
 use Rattle.world_core.specs.Order.{IsKept, IsOrdered}
 use Rattle.world_core.specs.World.{IsOpening, WorldView}
-use Rattle.world_core.proofs.Growth.{EntryAt_within}
+use Rattle.histories.proofs.Lists.{at_within}
 use Rattle.meta_top.specs.Alone.{commits, listed, receipt_of, receipts_from, receipts_of, version_after}
 use Rattle.meta_top.specs.Top.{IsRunOf}
 use Rattle.meta_top.proofs.Marks.{IsNewIn, entry_mark, kept_after, length_free, told_mark}
 use Rattle.run_record.proofs.Replaying.{follows}
-use Rattle.run_record.proofs.Served.{served}
+use Rattle.client_core.proofs.Scripts.{scripts_are}
+use Rattle.run_record.proofs.Served.{one_request, same_request, served}
 use Rattle.run_record.proofs.Naming.{AreNamedFrom, naming, journal_short, entry_above, front_above, named_rest, of_commit, of_seen, own_entry, place_next, rises_rest, version_seen}
 
--- ---- requests and receipts by their parts
+-- ---- receipts by their parts
 
 of_five : {A B C D E X : Type 0} (f : A → B → C → D → E → X) (a0 b0 : A) (a1 b1 : B) (a2 b2 : C) (a3 b3 : D) (a4 b4 : E) → a0 ≡ b0 → a1 ≡ b1 → a2 ≡ b2 → a3 ≡ b3 → a4 ≡ b4 → f a0 a1 a2 a3 a4 ≡ f b0 b1 b2 b3 b4
 of_five f a0 b0 a1 b1 a2 b2 a3 b3 a4 b4 e0 e1 e2 e3 e4 = cc
-
-same_request : (a b : Request) → a.server ≡ b.server → a.client ≡ b.client → a.number ≡ b.number → a.stamp ≡ b.stamp → a.call ≡ b.call → a ≡ b
-same_request a b server client number stamp call =
-    of_five (λ (s : ℕ) (c : ClientId) (n t : ℕ) (l : Call). record { server = s; client = c; number = n; stamp = t; call = l }) a.server b.server a.client b.client a.number b.number a.stamp b.stamp a.call b.call server client number stamp call
-
--- the request of a receipt
-asked : (a b : Request) (r : Receipt) → a.client ≡ b.client → IsOf a r → IsOf b r → a ≡ b
-asked a b r client x y =
-    same_request a b (same_Some a.server b.server (sym x.server ∙ y.server)) client (same_Some a.number b.number (sym x.number ∙ y.number)) (sym x.stamp ∙ y.stamp) (sym x.call ∙ y.call)
 
 same_receipt : (a b : Receipt) → a.op ≡ b.op → a.number ≡ b.number → a.server ≡ b.server → a.stamp ≡ b.stamp → a.call ≡ b.call → a.reply ≡ b.reply → a.committed ≡ b.committed → a.version ≡ b.version
     → a.conflicts ≡ b.conflicts → a.gone ≡ b.gone → a ≡ b
@@ -109,11 +102,11 @@ record IsOwn (script : Script) (e : Entry) : Type 0 where
 
 -- the receipt is the plain tree's, and its version the tree's that follows
 record IsNext (C : Settings) (journal : List Entry) (script : Script) (op v : ℕ) (step : Op) (l : Listed) : Type 0 where
-  same : l ≡ listed C v (receipt_of script op v step (apply C (tree_at C journal v) (request_of script op step) 0).1)
-  next : tree_at C journal l.receipt.version ≡ (apply C (tree_at C journal v) (request_of script op step) 0).0
+  same : l ≡ listed C v (receipt_of script op v step (apply C (tree_at C journal v) (single_request script op step) 0).1)
+  next : tree_at C journal l.receipt.version ≡ (apply C (tree_at C journal v) (single_request script op step) 0).0
 
 -- a receipt with the right reply, mark and version is the one
-made : (C : Settings) (script : Script) (op v : ℕ) (step : Op) (reply : Reply) (l : Listed) → l.client ≡ 0 → l.fronts ≡ fronts_of C v → l.text ≡ text_of l.receipt.call l.receipt.reply → l.receipt.op ≡ op → IsOf (request_of script op step) l.receipt → l.receipt.gone ≡ []
+made : (C : Settings) (script : Script) (op v : ℕ) (step : Op) (reply : Reply) (l : Listed) → l.client ≡ 0 → l.fronts ≡ fronts_of C v → l.text ≡ text_of l.receipt.call l.receipt.reply → l.receipt.op ≡ op → IsOf (single_request script op step) l.receipt → l.receipt.gone ≡ []
     → l.receipt.conflicts ≡ [] → l.receipt.reply ≡ reply → l.receipt.committed ≡ commits (call_of step) reply → l.receipt.version ≡ version_after v (call_of step) reply → l ≡ listed C v (receipt_of script op v step reply)
 made C script op v step reply l client fronts text ordinal is_of gone conflicts replied mark version =
     let receipt : l.receipt ≡ receipt_of script op v step reply =
@@ -123,9 +116,9 @@ made C script op v step reply l client fronts text ordinal is_of gone conflicts 
 module _ (C : Settings) (attempts : ℕ) (script : Script) (journal : List Entry) (some : 1 ≤ attempts) (few : length journal < 200000) (replies : AreReplies C (new_tree C) journal)
     (own : (place : ℕ) (e : Entry) → EntryAt journal place e → IsOwn script e) where
   -- no conflict names another client's entry
-  no_conflict : (q : Request) (floor : ℕ) (pairs : List (ℕ × Key)) → q.client ≡ script.id → AreConflicts C journal q floor pairs → pairs ≡ []
-  no_conflict q floor [] mine h = refl
-  no_conflict q floor (pair ∷ pairs) mine h = absurd (h.0.other ((own h.0.place h.0.entry h.0.at).client ∙ sym mine))
+  no_conflict : (floor : ℕ) (pairs : List (ℕ × Key)) → AreLater journal script.id floor pairs → pairs ≡ []
+  no_conflict floor [] h = refl
+  no_conflict floor (pair ∷ pairs) h = absurd (h.0.other (own h.0.place h.0.entry h.0.at).client)
 
   -- without a conflict no reply is Conflict
   told_of : (q : Request) (front : ℕ) (o : Outcome) → o.conflicts ≡ [] → (reply : Reply) → Shows C journal q front o reply → IsTold C journal q front o
@@ -139,12 +132,19 @@ module _ (C : Settings) (attempts : ℕ) (script : Script) (journal : List Entry
   told_of q front o none reply h = h
 
   module _ (op v : ℕ) (step : Op) (steps : List Op) (l : Listed) (rest : List Listed) (follow : Follow 0 script op (step ∷ steps) (l ∷ rest)) (h : AreReceipts C attempts journal script.id (l ∷ rest))
-      (rises : Rises v (l ∷ rest)) (named : AreNamedFrom journal v (l ∷ rest)) (new : IsNewIn (tree_at C journal v) (request_of script op step)) where
-    request_is : (served h.0).request ≡ request_of script op step
-    request_is = asked (served h.0).request (request_of script op step) l.receipt (served h.0).client_is (served h.0).is_of follow.2
+      (rises : Rises v (l ∷ rest)) (named : AreNamedFrom journal v (l ∷ rest)) (new : IsNewIn (tree_at C journal v) (single_request script op step)) where
+    request_is : (served h.0).request ≡ single_request script op step
+    request_is = one_request (served h.0).request (single_request script op step) l.receipt (served h.0).client_is (served h.0).is_of follow.2
 
     none : l.receipt.conflicts ≡ []
-    none = no_conflict (served h.0).request (front_of l.fronts) l.receipt.conflicts (served h.0).client_is (served h.0).conflicts
+    none = no_conflict (front_of l.fronts) l.receipt.conflicts (served h.0).conflicts
+
+    -- no server stopped, so the one that answered made the entry
+    server_is : l.receipt.committed ≡ true → (names : NamesEntry journal (served h.0).request (front_of l.fronts) (outcome_of l.receipt)) → names.entry.request.server ≡ (served h.0).request.server
+    server_is is names = elim ((served h.0).made_by is names.place names.entry names.at names.version) [
+      | inl by ↦ same_Some names.entry.request.server (served h.0).request.server (sym by ∙ (served h.0).is_of.server)
+      | inr stopped ↦ absurd (subst (λ (stops : List (ℕ × ℕ)). HasStopped stops names.entry.request.server) follow.3 stopped)
+    ]
 
     commit_next : l.receipt.committed ≡ true → IsNext C journal script op v step l
     commit_next is =
@@ -152,27 +152,27 @@ module _ (C : Settings) (attempts : ℕ) (script : Script) (journal : List Entry
         let place : names.place ≡ v = place_next C attempts journal script.id v l rest h rises named is in
         let at : EntryAt journal v names.entry = subst (λ n. EntryAt journal n names.entry) place names.at in
         let mine : IsOwn script names.entry = own v names.entry at in
-        let entry_is : names.entry.request ≡ request_of script op step = same_request names.entry.request (served h.0).request names.server names.client names.number names.stamp names.call ∙ request_is in
+        let entry_is : names.entry.request ≡ single_request script op step = same_request names.entry.request (served h.0).request (server_is is names) names.client names.number names.stamp names.call ∙ request_is in
         let update : is_query (call_of step) ≡ false = ap (λ (r : Request). is_query r.call) (sym entry_is) ∙ mine.update in
         let length : ℕ = settled_by names.entry.reply in
-        let any : apply C (tree_at C journal v) (request_of script op step) length ≡ apply C (tree_at C journal v) (request_of script op step) 0 =
-        length_free C (tree_at C journal v) (request_of script op step) length (built step) update new in
-        let reply : (apply C (tree_at C journal v) (request_of script op step) 0).1 ≡ l.receipt.reply =
+        let any : apply C (tree_at C journal v) (single_request script op step) length ≡ apply C (tree_at C journal v) (single_request script op step) 0 =
+        length_free C (tree_at C journal v) (single_request script op step) length (built step) update new in
+        let reply : (apply C (tree_at C journal v) (single_request script op step) 0).1 ≡ l.receipt.reply =
         ap (λ (p : Tree × Reply). p.1) (sym any)
         ∙ (ap (λ (r : Request). (apply C (tree_at C journal v) r length).1) (sym entry_is) ∙ (reply_at C (new_tree C) journal replies v names.entry at ∙ names.reply)) in
-        let accepted : IsNoRefusal (apply C (tree_at C journal v) (request_of script op step) 0).1 = subst IsNoRefusal (names.reply ∙ sym reply) mine.accepted in
-        let mark : commits (call_of step) (apply C (tree_at C journal v) (request_of script op step) 0).1 ≡ true = entry_mark (request_of script op step) (apply C (tree_at C journal v) (request_of script op step) 0).1 update accepted in
+        let accepted : IsNoRefusal (apply C (tree_at C journal v) (single_request script op step) 0).1 = subst IsNoRefusal (names.reply ∙ sym reply) mine.accepted in
+        let mark : commits (call_of step) (apply C (tree_at C journal v) (single_request script op step) 0).1 ≡ true = entry_mark (single_request script op step) (apply C (tree_at C journal v) (single_request script op step) 0).1 update accepted in
         let version : l.receipt.version ≡ v + 1 = names.version ∙ ap (λ n. n + 1) place in
         let above : v ≤ front_of l.fronts = front_above C attempts journal script.id v l rest (served h.0) rises in
         let later : front_of l.fronts ≤ names.place = entry_above C attempts journal script.id l (served h.0) is in
         let front : front_of l.fronts ≡ v = omega arith in
         record {
-          same = made C script op v step (apply C (tree_at C journal v) (request_of script op step) 0).1 l follow.0 (h.0.fronts ∙ ap (fronts_of C) front) h.0.text follow.1 follow.2 follow.3 none (sym reply) (is ∙ sym mark)
+          same = made C script op v step (apply C (tree_at C journal v) (single_request script op step) 0).1 l follow.0 (h.0.fronts ∙ ap (fronts_of C) front) h.0.text follow.1 follow.2 follow.3 none (sym reply) (is ∙ sym mark)
               (version ∙ ap (λ b. cond b (v + 1) v) (sym mark));
           next = ap (tree_at C journal) (version ∙ add-one v) ∙ (tree_next C (new_tree C) journal v names.entry at ∙ (ap (λ (r : Request). (apply C (tree_at C journal v) r length).0) entry_is ∙ ap (λ (p : Tree × Reply). p.0) any));
         }
 
-    seen_told : l.receipt.committed ≡ false → apply C (tree_at C journal v) (request_of script op step) 0 ≡ (tree_at C journal v, l.receipt.reply)
+    seen_told : l.receipt.committed ≡ false → apply C (tree_at C journal v) (single_request script op step) 0 ≡ (tree_at C journal v, l.receipt.reply)
     seen_told is =
         let seen : IsSeen C journal (served h.0).request (front_of l.fronts) (outcome_of l.receipt) = of_seen C attempts journal script.id l (served h.0) is in
         let version : l.receipt.version ≡ v = version_seen C attempts journal script.id v l rest h rises named is in
@@ -184,15 +184,15 @@ module _ (C : Settings) (attempts : ℕ) (script : Script) (journal : List Entry
     seen_next is =
         let seen : IsSeen C journal (served h.0).request (front_of l.fronts) (outcome_of l.receipt) = of_seen C attempts journal script.id l (served h.0) is in
         let version : l.receipt.version ≡ v = version_seen C attempts journal script.id v l rest h rises named is in
-        let told : apply C (tree_at C journal v) (request_of script op step) 0 ≡ (tree_at C journal v, l.receipt.reply) = seen_told is in
-        let reply : (apply C (tree_at C journal v) (request_of script op step) 0).1 ≡ l.receipt.reply = ap (λ (p : Tree × Reply). p.1) told in
-        let mark : commits (call_of step) l.receipt.reply ≡ false = told_mark C (tree_at C journal v) (request_of script op step) l.receipt.reply (built step) new told in
-        let mark_is : commits (call_of step) (apply C (tree_at C journal v) (request_of script op step) 0).1 ≡ false = ap (commits (call_of step)) reply ∙ mark in
+        let told : apply C (tree_at C journal v) (single_request script op step) 0 ≡ (tree_at C journal v, l.receipt.reply) = seen_told is in
+        let reply : (apply C (tree_at C journal v) (single_request script op step) 0).1 ≡ l.receipt.reply = ap (λ (p : Tree × Reply). p.1) told in
+        let mark : commits (call_of step) l.receipt.reply ≡ false = told_mark C (tree_at C journal v) (single_request script op step) l.receipt.reply (built step) new told in
+        let mark_is : commits (call_of step) (apply C (tree_at C journal v) (single_request script op step) 0).1 ≡ false = ap (commits (call_of step)) reply ∙ mark in
         let above : v ≤ front_of l.fronts = front_above C attempts journal script.id v l rest (served h.0) rises in
         let later : front_of l.fronts ≤ l.receipt.version = seen.above in
         let front : front_of l.fronts ≡ v = omega arith in
         record {
-          same = made C script op v step (apply C (tree_at C journal v) (request_of script op step) 0).1 l follow.0 (h.0.fronts ∙ ap (fronts_of C) front) h.0.text follow.1 follow.2 follow.3 none (sym reply) (is ∙ sym mark_is)
+          same = made C script op v step (apply C (tree_at C journal v) (single_request script op step) 0).1 l follow.0 (h.0.fronts ∙ ap (fronts_of C) front) h.0.text follow.1 follow.2 follow.3 none (sym reply) (is ∙ sym mark_is)
               (version ∙ ap (λ b. cond b (v + 1) v) (sym mark_is));
           next = ap (tree_at C journal) version ∙ sym (ap (λ (p : Tree × Reply). p.0) told);
         }
@@ -202,7 +202,7 @@ module _ (C : Settings) (attempts : ℕ) (script : Script) (journal : List Entry
 
     -- what the tree keeps afterwards
     kept_next : KeepsTo (tree_at C journal l.receipt.version) script.id (op + 1)
-    kept_next = subst (λ (T : Tree). KeepsTo T script.id (op + 1)) (sym one_next.next) (kept_after C (tree_at C journal v) (request_of script op step) new)
+    kept_next = subst (λ (T : Tree). KeepsTo T script.id (op + 1)) (sym one_next.next) (kept_after C (tree_at C journal v) (single_request script op step) new)
 
   along : (op v : ℕ) (steps : List Op) (receipts : List Listed) → Follow 0 script op steps receipts → AreReceipts C attempts journal script.id receipts → Rises v receipts → AreNamedFrom journal v receipts
       → KeepsTo (tree_at C journal v) script.id op → receipts ≡ receipts_from C script (tree_at C journal v) op v steps
@@ -211,16 +211,16 @@ module _ (C : Settings) (attempts : ℕ) (script : Script) (journal : List Entry
   along op v [] (l ∷ rest) follow h rises named kept = absurd follow
   along op v (step ∷ steps) [] follow h rises named kept = absurd follow
   along op v (step ∷ steps) (l ∷ rest) follow h rises named kept =
-      let new : IsNewIn (tree_at C journal v) (request_of script op step) = below (get (tree_at C journal v).kept script.id.0) op kept in
+      let new : IsNewIn (tree_at C journal v) (single_request script op step) = below (get (tree_at C journal v).kept script.id.0) op kept in
       let one : IsNext C journal script op v step l = one_next op v step steps l rest follow h rises named new in
-      let version : l.receipt.version ≡ version_after v (call_of step) (apply C (tree_at C journal v) (request_of script op step) 0).1 = ap (λ (x : Listed). x.receipt.version) one.same in
+      let version : l.receipt.version ≡ version_after v (call_of step) (apply C (tree_at C journal v) (single_request script op step) 0).1 = ap (λ (x : Listed). x.receipt.version) one.same in
       let others : rest ≡ receipts_from C script (tree_at C journal l.receipt.version) (op + 1) l.receipt.version steps =
       along (op + 1) l.receipt.version steps rest follow.4 h.1 (rises_rest v l rest rises) (named_rest C attempts journal script.id v l rest h rises named) (kept_next op v step steps l rest follow h rises named new) in
       ap (λ (x : Listed). x ∷ rest) one.same
-      ∙ ap (λ (xs : List Listed). listed C v (receipt_of script op v step (apply C (tree_at C journal v) (request_of script op step) 0).1) ∷ xs)
+      ∙ ap (λ (xs : List Listed). listed C v (receipt_of script op v step (apply C (tree_at C journal v) (single_request script op step) 0).1) ∷ xs)
       (others
       ∙ (ap (λ (T : Tree). receipts_from C script T (op + 1) l.receipt.version steps) one.next
-      ∙ ap (λ n. receipts_from C script (apply C (tree_at C journal v) (request_of script op step) 0).0 (op + 1) n steps) version))
+      ∙ ap (λ n. receipts_from C script (apply C (tree_at C journal v) (single_request script op step) 0).0 (op + 1) n steps) version))
 
 -- ---- the whole record
 
@@ -241,14 +241,14 @@ of_section C attempts script journal own some short replies entries section name
   where
     mine : (place : ℕ) (e : Entry) → EntryAt journal place e → IsOwn script e
     mine place e at = record {
-      client = own_entry C attempts journal script.id own section.each place e at (named place (omega arith) (EntryAt_within journal place e at));
+      client = own_entry C attempts journal script.id own section.each place e at (named place (omega arith) (at_within journal place e at));
       update = (entries place e at).update;
       accepted = (entries place e at).accepted;
     }
 
 pub alone : (plan : Plan) (run : Record) (script : Script) → 1 ≤ plan.attempts → length script.ops ≤ 4000 → plan.clients ≡ script ∷ [] → IsRight plan run → run.receipts ≡ receipts_of plan.config script
 alone plan run script some short one right =
-    let sections : AreSections plan.config plan.attempts run.entries 0 (script ∷ []) run.receipts = subst (λ (scripts : List Script). AreSections plan.config plan.attempts run.entries 0 scripts run.receipts) one right.sections in
+    let sections : AreSections plan.config plan.attempts run.entries 0 (script ∷ []) run.receipts = subst (λ (scripts : List Script). AreSections plan.config plan.attempts run.entries 0 scripts run.receipts) (scripts_are plan ∙ one) right.sections in
     let whole : run.receipts ≡ sections.0 = sections.2 ∙ (ap (λ (xs : List Listed). sections.0 ++ xs) sections.4 ∙ append-nil sections.0) in
     let named : AreNamedFrom run.entries 0 sections.0 = (λ place above within. ap (naming place) (sym whole) ∙ right.named place within) in
     whole ∙ of_section plan.config plan.attempts script run.entries sections.0 some short right.legal.replies right.entries sections.3 named

@@ -7,7 +7,8 @@ use Rattle.fs_base.specs.declared.reply.Reply.TheVariants as replies
 use Rattle.tree_model.specs.Calls.{apply, is_query}
 use Rattle.tree_model.specs.Tree.{Tree, new_tree}
 use Rattle.txn_task.specs.declared.outcome.Receipt.{Receipt}
-use Rattle.client_core.specs.Ops.{call_of, stamp_of, request_of}
+use Rattle.client_core.specs.Ops.{call_of, stamp_of}
+use Rattle.client_core.specs.Single.{single_request}
 use Rattle.client_core.specs.declared.plan.Op.{Op}
 use Rattle.client_core.specs.declared.plan.Script.{Script}
 use Rattle.run_record.specs.ReplyText.{text_of}
@@ -50,7 +51,7 @@ listed C version receipt = record { client = 0; fronts = fronts_of C version; re
 unfoldable pub receipts_from : Settings → Script → Tree → ℕ → ℕ → List Op → List Listed
 receipts_from C script T op version [] = []
 receipts_from C script T op version (step ∷ steps) =
-    let answered = apply C T (request_of script op step) 0 in
+    let answered = apply C T (single_request script op step) 0 in
     listed C version (receipt_of script op version step answered.1)
     ∷ receipts_from C script answered.0 (op + 1) (version_after version (call_of step) answered.1) steps
 

@@ -1,11 +1,10 @@
 -- A conflict names a later entry of another client that wrote what the request may read.
-use Rattle.std.proofs.Common.{◌≡◌, ℕ, ◌<◌, ◌≤◌, ◌+◌, inl, inr, List, [], ◌∷◌, ◌++◌, Option, Some, true, false, take, sym, refl, subst, arith}
+use Rattle.std.proofs.Common.{◌≡◌, ℕ, ◌<◌, ◌≤◌, ◌+◌, inl, inr, List, [], ◌∷◌, ◌++◌, Option, Some, true, false, sym, refl, subst, arith}
 use Rattle.std.specs.List.{list_any}
 use Rattle.std.specs.Ordering.{is_eq}
 use Rattle.std.proofs.lemmas.Bool.{or_cases}
 use Rattle.conflict_sets.specs.Keys.{key_cmp}
 use Rattle.conflict_sets.specs.Held.{is_written_key}
-use Rattle.conflict_sets.specs.Rows.{IsAscending}
 use Rattle.conflict_sets.specs.declared.sets.ReadSet.{ReadSet}
 use Rattle.conflict_sets.specs.declared.sets.Write.{Write}
 use Rattle.fs_base.specs.Config.{Settings}
@@ -14,23 +13,26 @@ use Rattle.key_schema.specs.Keys.{spelled_key, IsSpellable}
 use Rattle.key_schema.specs.declared.key.Key.{Key}
 use Rattle.kv_store.specs.Journal.{first_later}
 use Rattle.kv_store.specs.Later.{IsFirst, IsFirstLater}
-use Rattle.kv_store.proofs.JournalLemmas.{IsAscending-after_all}
 use Rattle.kv_store.proofs.LaterLemmas.{first_later_first}
-use Rattle.row_tree.specs.Opening.{opening_bytes}
 use Rattle.txn_task.specs.declared.messages.Entry.{Entry}
-use Rattle.meta_task.specs.Task.{TaskView}
 use Rattle.run_record.specs.Legal.{journal_rows, tree_at, writes_of}
 use Rattle.run_record.specs.Outcomes.{version_before}
-use Rattle.run_record.specs.Receipts.{IsWritten, NamesLater, AreConflicts}
+use Rattle.run_record.specs.Receipts.{IsWritten, AreConflicts, AreLater, IsConflict, MayMeet, MayMeetAll, NamesLater}
 use Rattle.request_run.specs.Served.{IsBegun, last_version}
 use Rattle.request_run.specs.Sound.{IsSoundJournal}
 use Rattle.request_run.proofs.Covered.{equal_key, held_touched}
-use Rattle.request_run.proofs.Fitting.{RequestFits}
-use Rattle.request_run.proofs.History.{rows_tree}
+use Rattle.request_run.proofs.History.{rows_ascend, rows_tree}
 
-pub AreConflicts-push : (C : Settings) (es : List Entry) (request : Request) (floor : ℕ) (pairs : List (ℕ × Key)) (p : ℕ × Key) → AreConflicts C es request floor pairs → NamesLater C es request (last_version floor pairs) p → AreConflicts C es request floor (pairs ++ p ∷ [])
-AreConflicts-push C es request floor [] p h n = (n, tt)
-AreConflicts-push C es request floor (q ∷ pairs) p h n = (h.0, AreConflicts-push C es request q.0 pairs p h.1 n)
+pub AreConflicts-push : (C : Settings) (es : List Entry) (request : Request) (floor : ℕ) (pairs : List (ℕ × Key)) (p : ℕ × Key) → AreConflicts C es request floor pairs → IsConflict C es request (last_version floor pairs) p → AreConflicts C es request floor (pairs ++ p ∷ [])
+AreConflicts-push C es request floor pairs p h n = (later floor pairs h.0 n.0, met floor pairs h.1 n.1)
+  where
+    later : (low : ℕ) (ps : List (ℕ × Key)) → AreLater es request.client low ps → NamesLater es request.client (last_version low ps) p → AreLater es request.client low (ps ++ p ∷ [])
+    later low [] a b = (b, tt)
+    later low (q ∷ ps) a b = (a.0, later q.0 ps a.1 b)
+
+    met : (low : ℕ) (ps : List (ℕ × Key)) → MayMeetAll C es request low ps → MayMeet C es request (last_version low ps) p → MayMeetAll C es request low (ps ++ p ∷ [])
+    met low [] a b = (b, tt)
+    met low (q ∷ ps) a b = (a.0, met q.0 ps a.1 b)
 
 pub last_version-push : (floor : ℕ) (pairs : List (ℕ × Key)) (p : ℕ × Key) → last_version floor (pairs ++ p ∷ []) ≡ p.0
 last_version-push floor [] p = refl
@@ -63,25 +65,28 @@ written (w ∷ writes) key e =
       | inr later ↦ inr (written writes key later)
     ]
 
-pub rows_ascending : (C : Settings) (journal : List Entry) → IsSoundJournal C journal → (n : ℕ) → IsAscending (journal_rows C journal n)
-rows_ascending C journal s n = IsAscending-after_all writes_of (opening_bytes C) (take n journal) s.ascending
-
-pub conflict_named : (C : Settings) (journal : List Entry) (floor : ℕ) (task : TaskView) (version : ℕ) (key : Key) → IsSoundJournal C journal → RequestFits task.request → IsBegun C journal task.request.client floor task → IsSpellable key
-    → first_later writes_of journal task.snapshot task.reads ≡ Some (version, spelled_key key) → NamesLater C journal task.request floor (version, key)
-conflict_named C journal floor task version key s fits b spellable later =
-    let first : IsFirstLater writes_of journal task.snapshot task.reads version (spelled_key key)
-    = subst (λ (o : Option (ℕ × List ℕ)). IsFirst writes_of journal task.snapshot task.reads o) later
-    (first_later_first writes_of journal task.snapshot task.reads) in
-    let behind : task.snapshot ≤ first.place = first.later in
-    record {
-      snapshot = task.snapshot;
-      from = b.from;
-      place = first.place;
-      version = first.numbered;
-      later = first.later;
-      entry = first.entry;
-      at = first.there;
-      other = λ same. (let before : first.place < task.snapshot = b.own first.place first.entry first.there same in omega arith);
-      wrote = written first.entry.writes.writes (spelled_key key) first.least.written;
-      touched = held_touched C task.request task.reads (journal_rows C journal task.snapshot) (tree_at C journal task.snapshot) key fits b.covered (rows_ascending C journal s task.snapshot) (rows_tree C journal s task.snapshot) b.agrees spellable first.least.held;
-    }
+pub conflict_named : (C : Settings) (journal : List Entry) (q : Request) (floor snapshot : ℕ) (reads : ReadSet) (version : ℕ) (key : Key) → IsSoundJournal C journal → IsBegun C journal q floor snapshot reads → IsSpellable key
+    → first_later writes_of journal snapshot reads ≡ Some (version, spelled_key key) → IsConflict C journal q floor (version, key)
+conflict_named C journal q floor snapshot reads version key s b spellable later =
+    let first : IsFirstLater writes_of journal snapshot reads version (spelled_key key)
+    = subst (λ (o : Option (ℕ × List ℕ)). IsFirst writes_of journal snapshot reads o) later
+    (first_later_first writes_of journal snapshot reads) in
+    let behind : snapshot ≤ first.place = first.later in
+    let from : floor ≤ snapshot = b.from in
+    let numbered : version ≡ first.place + 1 = first.numbered in (
+      record {
+        place = first.place;
+        version = numbered;
+        later = omega arith;
+        entry = first.entry;
+        at = first.there;
+        other = λ same. (let before : first.place < snapshot = b.own first.place first.entry first.there same in omega arith);
+        wrote = written first.entry.writes.writes (spelled_key key) first.least.written;
+      },
+      record {
+        snapshot = snapshot;
+        from = from;
+        before = omega arith;
+        touched = held_touched C q reads (journal_rows C journal snapshot) (tree_at C journal snapshot) key b.covered (rows_ascend C journal s snapshot) (rows_tree C journal s snapshot) b.agrees spellable first.least.held;
+      },
+    )

@@ -32,8 +32,7 @@ use Rattle.txn_task.specs.Agreeing.{Agrees}
 use Rattle.txn_task.specs.Transactions.{with_key, with_range}
 use Rattle.txn_task.specs.declared.messages.Ask.TheVariants as asks
 use Rattle.run_record.specs.Touched.{IsTouched, AreTouched, AreKeysTouched, AreRangesTouched}
-use Rattle.request_run.specs.Served.{IsCovered}
-use Rattle.request_run.proofs.Fitting.{AreaFits, RequestFits, area_fits}
+use Rattle.request_run.specs.Served.{AreSpelledIn, IsCovered}
 
 -- ---- one more read
 
@@ -72,37 +71,45 @@ before_range S reads range h =
       agrees = record { keys = h.agrees.keys; ranges = RangesAgree-before h.rows reads.ranges (range ∷ []) h.agrees.ranges };
     }
 
-KeysTouched-push : (areas : List Area) (reads : List KeyRead) (read : KeyRead) → AreKeysTouched areas reads → AreKeysTouched areas (read ∷ []) → AreKeysTouched areas (reads ++ read ∷ [])
-KeysTouched-push areas [] read h e = e
-KeysTouched-push areas (r ∷ reads) read h e = (h.0, KeysTouched-push areas reads read h.1 e)
+SpelledIn-push : (areas : List Area) (reads : List KeyRead) (read : KeyRead) → AreSpelledIn areas reads → AreSpelledIn areas (read ∷ []) → AreSpelledIn areas (reads ++ read ∷ [])
+SpelledIn-push areas [] read h e = e
+SpelledIn-push areas (r ∷ reads) read h e = (h.0, SpelledIn-push areas reads read h.1 e)
 
 RangesTouched-push : (areas : List Area) (reads : List RangeRead) (read : RangeRead) → AreRangesTouched areas reads → AreRangesTouched areas (read ∷ []) → AreRangesTouched areas (reads ++ read ∷ [])
 RangesTouched-push areas [] read h e = e
 RangesTouched-push areas (r ∷ reads) read h e = (h.0, RangesTouched-push areas reads read h.1 e)
 
--- nothing read yet
-pub covered_none : (C : Settings) (q : Request) → IsCovered C q (record { keys = []; ranges = [] })
-covered_none C q S good agrees = record { keys = tt; ranges = tt }
-
 -- a key, or rows, that could be asked for
-pub covered_key : (C : Settings) (q : Request) (reads : ReadSet) (key : Key) (value : Option (List ℕ)) → MayAsk C (λ T. footprint C T q) reads (asks.Get key) → IsCovered C q reads → IsCovered C q (with_key reads (spelled_key key) value)
-covered_key C q reads key value may h S good agrees =
+pub covered_key : (C : Settings) (q : Request) (reads : ReadSet) (key : Key) (value : Option (List ℕ)) → IsSpellable key → MayAsk C (λ T. footprint C T q) reads (asks.Get key) → IsCovered C q reads → IsCovered C q (with_key reads (spelled_key key) value)
+covered_key C q reads key value spelled may h S good agrees =
     let less : Agrees S reads = before_key S reads (spelled_key key) value agrees in
-    let old : AreTouched (footprint C (tree_of S) q) reads = h S good less in
-    record {
-      keys = KeysTouched-push (footprint C (tree_of S) q) reads.keys (record { key = spelled_key key; value = value }) old.keys ((key, refl, next_reaches reads (footprint C (tree_of S) q) (asks.Get key) (may S good less)), tt);
-      ranges = old.ranges;
-    }
+    let old = h S good less in (
+      SpelledIn-push (footprint C (tree_of S) q) reads.keys (record { key = spelled_key key; value = value }) old.0 ((key, spelled, refl, next_reaches reads (footprint C (tree_of S) q) (asks.Get key) (may S good less)), tt),
+      old.1,
+    )
 
 pub covered_range : (C : Settings) (q : Request) (reads : ReadSet) (lo hi : List ℕ) (limit : ℕ) (rows : List Row) → MayAsk C (λ T. footprint C T q) reads (asks.Range lo hi limit) → IsCovered C q reads
     → IsCovered C q (with_range reads (record { lo = lo; hi = hi; limit = limit; rows = rows }))
 covered_range C q reads lo hi limit rows may h S good agrees =
     let less : Agrees S reads = before_range S reads (record { lo = lo; hi = hi; limit = limit; rows = rows }) agrees in
-    let old : AreTouched (footprint C (tree_of S) q) reads = h S good less in
-    record {
-      keys = old.keys;
-      ranges = RangesTouched-push (footprint C (tree_of S) q) reads.ranges (record { lo = lo; hi = hi; limit = limit; rows = rows }) old.ranges (next_reaches reads (footprint C (tree_of S) q) (asks.Range lo hi limit) (may S good less), tt);
-    }
+    let old = h S good less in (
+      old.0,
+      RangesTouched-push (footprint C (tree_of S) q) reads.ranges (record { lo = lo; hi = hi; limit = limit; rows = rows }) old.1 (next_reaches reads (footprint C (tree_of S) q) (asks.Range lo hi limit) (may S good less), tt),
+    )
+
+-- what was read is touched
+keys_touched : (areas : List Area) (reads : List KeyRead) → AreSpelledIn areas reads → AreKeysTouched areas reads
+keys_touched areas [] h = tt
+keys_touched areas (read ∷ reads) h = ((h.0.0, h.0.2, h.0.3), keys_touched areas reads h.1)
+
+module _ (C : Settings) (q : Request) (reads : ReadSet) (rows : List Row) (T : Tree) (covered : IsCovered C q reads) (ascending : IsAscending rows) (tree : HasTree C rows T) (agrees : bytes.Agrees rows reads) where
+  covered_here : AreSpelledIn (footprint C T q) reads.keys × AreRangesTouched (footprint C T q) reads.ranges
+  covered_here =
+      subst (λ (t : Tree). AreSpelledIn (footprint C t q) reads.keys × AreRangesTouched (footprint C t q) reads.ranges) tree.3
+      (covered tree.0 tree.2 (record { rows = rows; ascending = ascending; spells = tree.1; agrees = agrees }))
+
+  pub all_touched : AreTouched (footprint C T q) reads
+  all_touched = record { keys = keys_touched (footprint C T q) reads.keys covered_here.0; ranges = covered_here.1 }
 
 -- ---- a key that was held
 
@@ -113,15 +120,15 @@ equal_key a b t = by_place (a ≡ b) a b
     (λ e. absurd (let f : false ≡ true = (rw e at t) in cc))
 
 -- a key that was read
-key_touched : (areas : List Area) (reads : List KeyRead) (key : Key) → IsSpellable key → ((area : Area) → IsArea area areas → AreaFits area) → AreKeysTouched areas reads → list_any (λ (read : KeyRead). is_eq (key_cmp (spelled_key key) read.key)) reads ≡ true → IsTouched areas key
-key_touched areas [] key valid fit h e = absurd (let f : false ≡ true = e in cc)
-key_touched areas (r ∷ reads) key valid fit h e =
+key_touched : (areas : List Area) (reads : List KeyRead) (key : Key) → IsSpellable key → AreSpelledIn areas reads → list_any (λ (read : KeyRead). is_eq (key_cmp (spelled_key key) read.key)) reads ≡ true → IsTouched areas key
+key_touched areas [] key valid h e = absurd (let f : false ≡ true = e in cc)
+key_touched areas (r ∷ reads) key valid h e =
     elim (or_cases (is_eq (key_cmp (spelled_key key) r.key)) (list_any (λ (read : KeyRead). is_eq (key_cmp (spelled_key key) read.key)) reads) e) [
       | inl here ↦
           (let bytes_are : spelled_key key ≡ r.key = equal_key (spelled_key key) r.key here in
-          let same : h.0.0 ≡ key = one_key_each h.0.0 key (fit (OneKey h.0.0) h.0.2) valid (sym h.0.1 ∙ sym bytes_are) in
-          inl (subst (λ (k : Key). IsArea (OneKey k) areas) same h.0.2))
-      | inr later ↦ key_touched areas reads key valid fit h.1 later
+          let same : h.0.0 ≡ key = one_key_each h.0.0 key h.0.1 valid (sym h.0.2 ∙ sym bytes_are) in
+          inl (subst (λ (k : Key). IsArea (OneKey k) areas) same h.0.3))
+      | inr later ↦ key_touched areas reads key valid h.1 later
     ]
 
 and_left : (a b : Bool) → (a && b) ≡ true → a ≡ true
@@ -170,15 +177,11 @@ range_touched areas (r ∷ reads) key h e =
     ]
 
 -- A key that reads hold, where rows of the tree agree with them, is touched.
-pub held_touched : (C : Settings) (q : Request) (reads : ReadSet) (rows : List Row) (T : Tree) (key : Key) → RequestFits q → IsCovered C q reads → IsAscending rows → HasTree C rows T → bytes.Agrees rows reads → IsSpellable key → reads_hold reads (spelled_key key) ≡ true
+pub held_touched : (C : Settings) (q : Request) (reads : ReadSet) (rows : List Row) (T : Tree) (key : Key) → IsCovered C q reads → IsAscending rows → HasTree C rows T → bytes.Agrees rows reads → IsSpellable key → reads_hold reads (spelled_key key) ≡ true
     → IsTouched (footprint C T q) key
-held_touched C q reads rows T key request covered ascending tree agrees fits held =
-    let S : TypedRows = tree.0 in
-    let areas : List Area = footprint C (tree_of S) q in
-    let touched : AreTouched areas reads = covered S tree.2 (record { rows = rows; ascending = ascending; spells = tree.1; agrees = agrees }) in
-    let fit : (area : Area) → IsArea area areas → AreaFits area = area_fits C rows S q tree.1 request in
-    let here : IsTouched areas key = elim (or_cases (list_any (λ (read : KeyRead). is_eq (key_cmp (spelled_key key) read.key)) reads.keys) (list_any (λ (read : RangeRead). range_holds read (spelled_key key)) reads.ranges) held) [
-      | inl in_keys ↦ key_touched areas reads.keys key fits fit touched.keys in_keys
-      | inr in_ranges ↦ range_touched areas reads.ranges key touched.ranges in_ranges
-    ] in
-    subst (λ (t : Tree). IsTouched (footprint C t q) key) tree.3 here
+held_touched C q reads rows T key covered ascending tree agrees fits held =
+    let here = covered_here C q reads rows T covered ascending tree agrees in
+    elim (or_cases (list_any (λ (read : KeyRead). is_eq (key_cmp (spelled_key key) read.key)) reads.keys) (list_any (λ (read : RangeRead). range_holds read (spelled_key key)) reads.ranges) held) [
+      | inl in_keys ↦ key_touched (footprint C T q) reads.keys key fits here.0 in_keys
+      | inr in_ranges ↦ range_touched (footprint C T q) reads.ranges key here.1 in_ranges
+    ]

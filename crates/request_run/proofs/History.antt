@@ -1,6 +1,6 @@
 -- What follows for a sound journal: its rows are the tree's, it is legal, and a kept reply is its client's last.
 use Rattle.std.proofs.Common.{◌≡◌, ◌≢◌, ℕ, ◌<◌, ◌≤◌, ◌+◌, ◌^◌, ◌⊎◌, inl, inr, Bool, true, false, cond, List, [], ◌∷◌, Option, Some, None, length, take, sym, ◌∙◌, ap, refl, subst, arith, add-one, suc, zero, MatchOption}
-use Rattle.std.specs.Prelude.{unwrap_or, IsTrue, ⊤}
+use Rattle.std.specs.Prelude.{unwrap_or, slice_get, IsTrue, ⊤}
 use Rattle.std.specs.FinMap.{get, get-empty}
 use Rattle.std.specs.Option.{option_map}
 use Rattle.std.specs.Ordering.{is_eq, nat_cmp}
@@ -251,10 +251,10 @@ pub record IsKeptBy (C : Settings) (journal : List Entry) (n : ℕ) (client : Cl
 id_same : (a b : ClientId) → a.0 ≡ b.0 → a ≡ b
 id_same a b e = λ i. record { 0 = e i }
 
-entry_in : (es : List Entry) (place : ℕ) → place < length es → (e : Entry) × EntryAt es place e
-entry_in [] place l = absurd (omega arith)
-entry_in (x ∷ es) zero l = (x, refl)
-entry_in (x ∷ es) (suc place) l = entry_in es place (omega arith)
+pub at_there : {X : Type 0} (xs : List X) (place : ℕ) → place < length xs → (x : X) × (slice_get xs place ≡ Some x)
+at_there [] place l = absurd (omega arith)
+at_there (x ∷ xs) zero l = (x, refl)
+at_there (x ∷ xs) (suc place) l = at_there xs place (omega arith)
 
 module _ (C : Settings) (journal : List Entry) (s : IsSoundJournal C journal) (client : ClientId) (small : client.0 < 2 ^ 128) where
   abbrev key : List ℕ
@@ -291,7 +291,7 @@ module _ (C : Settings) (journal : List Entry) (s : IsSoundJournal C journal) (c
   pub kept_by : (n : ℕ) → n ≤ length journal → (get (tree_at C journal n).kept client.0 ≡ None) ⊎ IsKeptBy C journal n client
   kept_by zero l = inl (get-empty nat_cmp client.0)
   kept_by (suc n) l =
-      let here : (e : Entry) × EntryAt journal n e = entry_in journal n (omega arith) in
+      let here : (e : Entry) × EntryAt journal n e = at_there journal n (omega arith) in
       next here.0 here.1 (kept_by n (omega arith))
     where
       next : (e : Entry) → EntryAt journal n e → (get (tree_at C journal n).kept client.0 ≡ None) ⊎ IsKeptBy C journal n client

@@ -1,7 +1,9 @@
 pub mod Answering
 pub mod Conflicts
+pub mod Continuing
 pub mod Covered
-pub mod Fitting
+pub mod Ending
+pub mod Growing
 pub mod History
 pub mod Keeping
 pub mod Replies

@@ -53,9 +53,15 @@ abbrev pub HasKey : Answer → Type 0
 HasKey (answers.Conflict version key) = IsSpellable key
 HasKey answer = Unit {0}
 
+-- the numbers of a key that is asked for fit its bytes
+abbrev pub IsSpelled : Ask → Type 0
+IsSpelled (asks.Get key) = IsSpellable key
+IsSpelled ask = Unit {0}
+
 -- the store answers the ask of a task, which asks on
 pub record IsExchange (C : Settings) (old new : List Entry) (task : TaskView) (ask : Ask) (after : TaskView) (following : Ask) : Type 0 where
   pub answer : Answer
   pub key : HasKey answer
+  pub spelled : IsSpelled ask
   pub answered : IsAnswer C old new task.snapshot ask answer
   pub asks : Asks task answer after following

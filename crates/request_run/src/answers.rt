@@ -1,8 +1,8 @@
 //! One ask, answered by the store.
 
-ghost use Rattle.std.specs.Prelude.{◌≡◌, ◌⊎◌, ◌≤◌, ℕ, length, IfOk, IfErr, OnOk};
+ghost use Rattle.std.specs.Prelude.{◌≡◌, ◌⊎◌, ◌≤◌, ◌<◌, ◌^◌, ℕ, length, IfOk, IfErr, OnOk};
 ghost use Rattle.conflict_sets.specs.Reads.{Agrees};
-ghost use Rattle.key_schema.specs.Keys.{IsKeyOf};
+ghost use Rattle.key_schema.specs.Keys.{IsKeyOf, IsSpellable};
 ghost use Rattle.key_schema.specs.declared.key.Key.{Key};
 ghost use Rattle.kv_store.specs.Causes.{HasCause};
 ghost use Rattle.kv_store.specs.Journal.{first_later};
@@ -11,11 +11,11 @@ ghost use Rattle.run_record.specs.Legal.{journal_rows, writes_of};
 ghost use Rattle.txn_task.specs.declared.messages.Answer.TheVariants as answers;
 ghost use Rattle.txn_task.specs.declared.messages.Ask.{Ask};
 ghost use Rattle.txn_task.specs.declared.messages.Entry.{Entry};
-ghost use Rattle.request_run.specs.Answered.{HasKey, IsAnswer, IsKeyed, MayAnswer, Tells};
+ghost use Rattle.request_run.specs.Answered.{HasKey, IsAnswer, IsKeyed, IsSpelled, MayAnswer, Tells};
 ghost use Rattle.request_run.specs.Entries.{entries_of, with_entry};
 ghost use Rattle.request_run.specs.Sound.{IsOpen, IsSoundJournal};
 
-use fs_base::{Memory, Text};
+use fs_base::{ClientId, Memory, Text};
 use key_schema::{Key, KeyError};
 use kv_store::{CommitError, KvState, Refused};
 use meta_task::MetaEntry;
@@ -31,6 +31,39 @@ pub fn sound_store(store: &KvState<MetaEntry>)
     store.facts();
 }
 
+/// Tells that a client's number has 16 bytes. It does nothing.
+fn spellable_client(client: ClientId)
+    ensures { client.0 < 2 ^ 128 }
+{
+    let _number: u128 = client.0;
+}
+
+/// Tells that each number of a key fits its bytes. It does nothing.
+fn spellable(key: &Key)
+    ensures { IsSpellable key.now }
+{
+    match key {
+        Key::Alloc(_server) => {}
+        Key::Dent(parent, _name) => {
+            parent.get();
+        }
+        Key::Gc(id) => {
+            id.get();
+        }
+        Key::Idem(client) => {
+            spellable_client(*client);
+        }
+        Key::Inode(id) => {
+            id.get();
+        }
+        Key::Session(id, client, number) => {
+            id.get();
+            spellable_client(*client);
+            let _session = *number;
+        }
+    }
+}
+
 fn get(
     alloc: Global,
     store: &KvState<MetaEntry>,
@@ -39,8 +72,10 @@ fn get(
 ) -> Result<Answer, Memory>
     requires open { IsOpen store.now }
     requires snapshot { snapshot ≤ length (entries_of store.now.journal) }
-    ensures { IfOk result (λ a. IsAnswer store.now.config (entries_of store.now.journal) (entries_of store.now.journal) snapshot (Ask.Get key.now) a) }
+    ensures answer { IfOk result (λ a. IsAnswer store.now.config (entries_of store.now.journal) (entries_of store.now.journal) snapshot (Ask.Get key.now) a) }
+    ensures spelled { IsSpellable key.now }
 {
+    spellable(key);
     let bytes = key.write(alloc)?;
     let got = store.get_at(snapshot, bytes.as_slice())?;
     Ok(Answer::Got(got))
@@ -151,6 +186,7 @@ pub fn answer(
     requires may { MayAnswer store.old.config (entries_of store.old.journal) snapshot ask }
     ensures answer { IfOk result (λ a. IsAnswer store.old.config (entries_of store.old.journal) (entries_of store.new.journal) snapshot ask a) }
     ensures key { IfOk result HasKey }
+    ensures spelled { IsSpelled ask }
     ensures grows { (store.new ≡ store.old) ⊎ ((entry : Entry) × (ask ≡ Ask.Commit entry) × (store.new ≡ with_entry store.old entry)) }
 {
     match ask {

@@ -11,6 +11,7 @@ use Rattle.run_record.specs.Receipts.{AreReceipts, Rises}
 use Rattle.run_record.specs.Right.{AreSections, IsRight}
 use Rattle.run_record.specs.declared.run.Listed.{Listed}
 use Rattle.run_record.specs.declared.run.Record.{Record}
+use Rattle.client_core.proofs.Scripts.{scripts_are}
 use Rattle.run_record.proofs.Served.{served}
 use Rattle.run_record.proofs.Naming.{AreNamedFrom, naming, named_rest, of_commit, place_next, rises_rest, version_seen}
 
@@ -30,7 +31,7 @@ module _ (C : Settings) (attempts : ℕ) (journal : List Entry) (client : Client
 
 pub one_client : (plan : Plan) (run : Record) (script : Script) → plan.clients ≡ script ∷ [] → IsRight plan run → CountCommits 0 run.receipts
 one_client plan run script one right =
-    let sections : AreSections plan.config plan.attempts run.entries 0 (script ∷ []) run.receipts = subst (λ (scripts : List Script). AreSections plan.config plan.attempts run.entries 0 scripts run.receipts) one right.sections in
+    let sections : AreSections plan.config plan.attempts run.entries 0 (script ∷ []) run.receipts = subst (λ (scripts : List Script). AreSections plan.config plan.attempts run.entries 0 scripts run.receipts) (scripts_are plan ∙ one) right.sections in
     let whole : run.receipts ≡ sections.0 = sections.2 ∙ (ap (λ (xs : List Listed). sections.0 ++ xs) sections.4 ∙ append-nil sections.0) in
     let named : AreNamedFrom run.entries 0 sections.0 = (λ place above within. ap (naming place) (sym whole) ∙ right.named place within) in
     subst (CountCommits 0) (sym whole) (counted plan.config plan.attempts run.entries script.id 0 sections.0 sections.3.each sections.3.rises named)

@@ -10,7 +10,7 @@ use Rattle.tree_model.specs.Calls.{is_query}
 use Rattle.txn_task.specs.declared.messages.Entry.{Entry}
 use Rattle.txn_task.specs.declared.outcome.Outcome.{Outcome}
 use Rattle.run_record.specs.Outcomes.{last_version, seen_by, version_before, AreAttempts, IsSeen, IsSpent, MayTell, NamesEntry, Shows}
-use Rattle.run_record.specs.Receipts.{front_of, outcome_of, IsServed, Rises}
+use Rattle.run_record.specs.Receipts.{front_of, outcome_of, IsAnswered, IsServed, Rises}
 use Rattle.run_record.specs.declared.run.Listed.{Listed}
 
 -- a call that begins below a conflict of its client's call before
@@ -28,7 +28,10 @@ fewer : (attempts : ℕ) (reply : Reply) (met : ℕ) → (reply ≡ Refused code
 fewer attempts (Refused codes.Conflict) met other h = absurd (other refl)
 fewer attempts reply met other h = h
 
-module _ (C : Settings) (attempts : ℕ) (journal : List Entry) (client : ClientId) (listed : Listed) (h : IsServed C attempts journal client listed) where
+module _ (C : Settings) (attempts : ℕ) (journal : List Entry) (client : ClientId) (listed : Listed) (whole : IsAnswered C attempts journal client listed) where
+  abbrev h : IsServed C journal client listed
+  h = whole.served
+
   seen_is : listed.receipt.committed ≡ false → IsSeen C journal h.request (front_of listed.fronts) (outcome_of listed.receipt)
   seen_is e = subst (λ b. MatchBool b (NamesEntry journal h.request (front_of listed.fronts) (outcome_of listed.receipt)) (IsSeen C journal h.request (front_of listed.fronts) (outcome_of listed.receipt))) e h.outcome
 
@@ -58,7 +61,7 @@ module _ (C : Settings) (attempts : ℕ) (journal : List Entry) (client : Client
 
   -- a reply behind as many conflicts as attempts
   pub none_behind_all : (listed.receipt.reply ≡ Refused codes.Conflict → ⊥) → attempts ≤ length listed.receipt.conflicts → ⊥
-  none_behind_all other all = let met : length listed.receipt.conflicts < attempts = fewer attempts listed.receipt.reply (length listed.receipt.conflicts) other h.met in omega arith
+  none_behind_all other all = let met : length listed.receipt.conflicts < attempts = fewer attempts listed.receipt.reply (length listed.receipt.conflicts) other whole.met in omega arith
 
   -- a reply Conflict of a version that its last attempt can't have begun at
   pub none_spent_elsewhere : listed.receipt.committed ≡ false → listed.receipt.reply ≡ Refused codes.Conflict

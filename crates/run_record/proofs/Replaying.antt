@@ -9,9 +9,10 @@ use Rattle.fs_base.specs.declared.call.Call.{Call}
 use Rattle.txn_task.specs.declared.messages.Entry.{Entry}
 use Rattle.txn_task.specs.declared.outcome.Outcome.{Outcome}
 use Rattle.txn_task.specs.declared.outcome.Receipt.{Receipt}
-use Rattle.client_core.specs.Client.{ClientView, client_step, end_call, has_ended, receipt_of, send}
-use Rattle.client_core.specs.Ops.{call_of, request_of, stamp_of}
+use Rattle.client_core.specs.Client.{ClientView, client_step, has_ended, send}
+use Rattle.client_core.specs.Ops.{call_of, stamp_of}
 use Rattle.client_core.specs.Replay.{answered, receipts_in, receipts_told, replayed, reply_to}
+use Rattle.client_core.specs.Single.{single_receipt, single_request}
 use Rattle.client_core.specs.declared.messages.ClientAnswer.TheVariants as answers
 use Rattle.client_core.specs.declared.messages.ClientAsk.{ClientAsk}
 use Rattle.client_core.specs.declared.messages.ClientAsk.TheVariants as asks
@@ -45,23 +46,22 @@ module _ (C : Settings) (script : Script) where
 
   -- the client with so many operations done
   abbrev client_at : ℕ → ClientView
-  client_at op = record { config = C; script = script; op = op; sent = false; failed = false }
+  client_at op = record { config = C; script = script; op = op; number = op; server = script.home; gone = []; request = None; failed = false }
 
-  abbrev sent_at : ℕ → ClientView
-  sent_at op = record { config = C; script = script; op = op; sent = true; failed = false }
+  abbrev sent_at : ℕ → Op → ClientView
+  sent_at op step = record (client_at op) { number = op + 1; request = Some (single_request script op step) }
 
-  answered_there : (op : ℕ) (step : Op) (outcome : Outcome) → slice_get script.ops op ≡ Some step → answered (client_at op) outcome ≡ (client_at (op + 1), asks.CallEnd (receipt_of op step script.home outcome ∷ []) true)
+  answered_there : (op : ℕ) (step : Op) (outcome : Outcome) → slice_get script.ops op ≡ Some step → answered (client_at op) outcome ≡ (client_at (op + 1), asks.CallEnd (single_receipt script op step outcome ∷ []) true)
   answered_there op step outcome there =
-      let sends : client_step (client_at op) answers.Next ≡ (sent_at op, asks.Send script.home (request_of script op step)) = ap (send (client_at op)) there in
-      let replies : answered (client_at op) outcome ≡ client_step (sent_at op) (answers.Replied script.home outcome) = ap (λ (p : ClientView × ClientAsk). client_step p.0 (reply_to p.1 outcome)) sends in
-      replies ∙ ap (end_call (sent_at op) script.home outcome) there
+      let sends : client_step (client_at op) answers.Next ≡ (sent_at op step, asks.Send script.home (single_request script op step)) = ap (send (client_at op)) there in
+      ap (λ (p : ClientView × ClientAsk). client_step p.0 (reply_to p.1 outcome)) sends
 
   answered_end : (op : ℕ) (outcome : Outcome) → slice_get script.ops op ≡ None → answered (client_at op) outcome ≡ (client_at op, asks.Ended)
   answered_end op outcome none =
       let ends : client_step (client_at op) answers.Next ≡ (client_at op, asks.Ended) = ap (send (client_at op)) none in
       ap (λ (p : ClientView × ClientAsk). client_step p.0 (reply_to p.1 outcome)) ends ∙ ends
 
-  is_of : (op : ℕ) (step : Op) (outcome : Outcome) (r : Receipt) → r ≡ receipt_of op step script.home outcome → IsOf (request_of script op step) r
+  is_of : (op : ℕ) (step : Op) (outcome : Outcome) (r : Receipt) → r ≡ single_receipt script op step outcome → IsOf (single_request script op step) r
   is_of op step outcome r is = record {
     server = ap (λ (x : Receipt). x.server) is;
     number = ap (λ (x : Receipt). x.number) is;
@@ -74,11 +74,11 @@ module _ (C : Settings) (script : Script) where
   module _ (k : ℕ) where
     -- one receipt, and then the others
     follow_first : (op : ℕ) (step : Op) (steps : List Op) (outcome : Outcome) (told : List Receipt) → ((own : List Listed) → receipts_of own ≡ told → All (λ listed. listed.client ≡ k) own → Follow k script (op + 1) steps own)
-        → (own : List Listed) → receipts_of own ≡ receipt_of op step script.home outcome ∷ told → All (λ listed. listed.client ≡ k) own → Follow k script op (step ∷ steps) own
-    follow_first op step steps outcome told next [] is all = absurd (let f : [] ≡ receipt_of op step script.home outcome ∷ told = is in cc)
+        → (own : List Listed) → receipts_of own ≡ single_receipt script op step outcome ∷ told → All (λ listed. listed.client ≡ k) own → Follow k script op (step ∷ steps) own
+    follow_first op step steps outcome told next [] is all = absurd (let f : [] ≡ single_receipt script op step outcome ∷ told = is in cc)
     follow_first op step steps outcome told next (l ∷ own) is all =
-        let first : l.receipt ≡ receipt_of op step script.home outcome = head_is l.receipt (receipt_of op step script.home outcome) (receipts_of own) told is in
-        let others : receipts_of own ≡ told = tail_is l.receipt (receipt_of op step script.home outcome) (receipts_of own) told is in
+        let first : l.receipt ≡ single_receipt script op step outcome = head_is l.receipt (single_receipt script op step outcome) (receipts_of own) told is in
+        let others : receipts_of own ≡ told = tail_is l.receipt (single_receipt script op step outcome) (receipts_of own) told is in
         (All-head (λ (x : Listed). x.client ≡ k) l own all, ap (λ (x : Receipt). x.op) first, is_of op step outcome l.receipt first, ap (λ (x : Receipt). x.gone) first, next own others (All-tail (λ (x : Listed). x.client ≡ k) l own all))
       where
         head_is : (a b : Receipt) (xs ys : List Receipt) → a ∷ xs ≡ b ∷ ys → a ≡ b
@@ -94,8 +94,8 @@ module _ (C : Settings) (script : Script) where
     follow_told op [] (l ∷ own) told ended all = absurd (let f : l.receipt ∷ receipts_of own ≡ [] = told in cc)
     follow_told op (outcome ∷ outcomes) own told ended all = elim (there_or_end script.ops op) [
       | inl there ↦
-          (let ask : answered (client_at op) outcome ≡ (client_at (op + 1), asks.CallEnd (receipt_of op there.0 script.home outcome ∷ []) true) = answered_there op there.0 outcome there.1 in
-          let is : receipts_of own ≡ receipt_of op there.0 script.home outcome ∷ receipts_told (client_at (op + 1)) outcomes = told ∙ ap (λ (p : ClientView × ClientAsk). receipts_in p.1 ++ receipts_told p.0 outcomes) ask in
+          (let ask : answered (client_at op) outcome ≡ (client_at (op + 1), asks.CallEnd (single_receipt script op there.0 outcome ∷ []) true) = answered_there op there.0 outcome there.1 in
+          let is : receipts_of own ≡ single_receipt script op there.0 outcome ∷ receipts_told (client_at (op + 1)) outcomes = told ∙ ap (λ (p : ClientView × ClientAsk). receipts_in p.1 ++ receipts_told p.0 outcomes) ask in
           let end : has_ended (replayed (client_at (op + 1)) outcomes) ≡ true = ap (λ (p : ClientView × ClientAsk). has_ended (replayed p.0 outcomes)) (sym ask) ∙ ended in
           subst (λ (steps : List Op). Follow k script op steps own) (sym there.2)
           (follow_first op there.0 (drop (suc op) script.ops) outcome (receipts_told (client_at (op + 1)) outcomes)
@@ -107,10 +107,10 @@ module _ (C : Settings) (script : Script) where
 
     -- ---- to the replay
 
-    told_first : (op : ℕ) (step : Op) (r : Receipt) → r.op ≡ op → IsOf (request_of script op step) r → r.gone ≡ [] → r ≡ receipt_of op step script.home (outcome_of r)
+    told_first : (op : ℕ) (step : Op) (r : Receipt) → r.op ≡ op → IsOf (single_request script op step) r → r.gone ≡ [] → r ≡ single_receipt script op step (outcome_of r)
     told_first op step r ordinal of gone =
         of_five (λ (o : ℕ) (n s : Option ℕ) (t : ℕ) (l : Call). record r { op = o; number = n; server = s; stamp = t; call = l }) r.op op r.number (Some (op + 1)) r.server (Some script.home) r.stamp (stamp_of step) r.call (call_of step) ordinal of.number of.server of.stamp of.call
-        ∙ ap (λ (g : List (ℕ × ℕ)). record (receipt_of op step script.home (outcome_of r)) { gone = g }) gone
+        ∙ ap (λ (g : List (ℕ × ℕ)). record (single_receipt script op step (outcome_of r)) { gone = g }) gone
       where
         of_five : {A B C D E X : Type 0} (f : A → B → C → D → E → X) (a0 b0 : A) (a1 b1 : B) (a2 b2 : C) (a3 b3 : D) (a4 b4 : E) → a0 ≡ b0 → a1 ≡ b1 → a2 ≡ b2 → a3 ≡ b3 → a4 ≡ b4 → f a0 a1 a2 a3 a4 ≡ f b0 b1 b2 b3 b4
         of_five f a0 b0 a1 b1 a2 b2 a3 b3 a4 b4 e0 e1 e2 e3 e4 = cc
@@ -132,11 +132,11 @@ module _ (C : Settings) (script : Script) where
           let same : there.0 ≡ step = (cc) in
           let others : steps ≡ drop (suc op) script.ops = (cc) in
           let next : IsReplay (op + 1) own = told_by (op + 1) steps own (others ∙ ap (λ n. drop n script.ops) (sym (add-one op))) rest in
-          let ask : answered (client_at op) (outcome_of l.receipt) ≡ (client_at (op + 1), asks.CallEnd (receipt_of op step script.home (outcome_of l.receipt) ∷ []) true) = answered_there op step (outcome_of l.receipt) (there.1 ∙ ap Some same) in
-          let first : l.receipt ≡ receipt_of op step script.home (outcome_of l.receipt) = told_first op step l.receipt ordinal of gone in
+          let ask : answered (client_at op) (outcome_of l.receipt) ≡ (client_at (op + 1), asks.CallEnd (single_receipt script op step (outcome_of l.receipt) ∷ []) true) = answered_there op step (outcome_of l.receipt) (there.1 ∙ ap Some same) in
+          let first : l.receipt ≡ single_receipt script op step (outcome_of l.receipt) = told_first op step l.receipt ordinal of gone in
           record {
             told = ap (λ (r : Receipt). r ∷ receipts_of own) first
-                ∙ (ap (λ (rs : List Receipt). receipt_of op step script.home (outcome_of l.receipt) ∷ rs) next.told
+                ∙ (ap (λ (rs : List Receipt). single_receipt script op step (outcome_of l.receipt) ∷ rs) next.told
                 ∙ ap (λ (p : ClientView × ClientAsk). receipts_in p.1 ++ receipts_told p.0 (outcomes_of own)) (sym ask));
             ended = ap (λ (p : ClientView × ClientAsk). has_ended (replayed p.0 (outcomes_of own))) ask ∙ next.ended;
             ordinals = All-cons (λ (listed : Listed). listed.client ≡ k) l own client next.ordinals;

@@ -366,10 +366,10 @@ module _ (T : Tree) (stamp : ℕ) where
   rename_at_well : (from to : Walked) → EndsWell from → EndsWell to → RepliesWell (rename_at T stamp from to)
   rename_at_well from to h e = at_name_well T stamp from (λ dir name. move_entry T stamp (dir, name) to (get T.entries (dir, name))) h (λ dir name. move_entry_well (dir, name) to (get T.entries (dir, name)) e)
 
-  names_well : (a b : Bool) (act : Effect) → RepliesWell act → RepliesWell (cond a (refuses codes.IsRoot) (cond b (refuses codes.IsRoot) act))
-  names_well true b act h = tt
-  names_well false true act h = tt
-  names_well false false act h = h
+  both_named_well : (a b : Bool) (act : Effect) → RepliesWell act → RepliesWell (cond a (refuses codes.IsRoot) (cond b (refuses codes.IsRoot) act))
+  both_named_well true b act h = tt
+  both_named_well false true act h = tt
+  both_named_well false false act h = h
 
 call_well : (C : Settings) (T : Tree) (q : Request) (call : Call) → RepliesWell (effect_of C T q call)
 call_well C T q (calls.Lookup place) = by_path place.text (λ path. Leaves (found_of (resolve T place.base path NoFollow))) (λ path. found_well (resolve T place.base path NoFollow) (resolve_well T place.base path NoFollow))
@@ -402,7 +402,7 @@ call_well C T q (calls.Rmdir place) =
 call_well C T q (calls.Rename from to) =
     by_path from.text (λ source. on_path (path_of to.text) (λ path. have_names source path (rename_at T q.stamp (resolve T from.base source Parent) (resolve T to.base path Parent))))
     (λ source. by_path to.text (λ path. have_names source path (rename_at T q.stamp (resolve T from.base source Parent) (resolve T to.base path Parent)))
-    (λ path. names_well T q.stamp (is_end source.names) (is_end path.names) (rename_at T q.stamp (resolve T from.base source Parent) (resolve T to.base path Parent))
+    (λ path. both_named_well T q.stamp (is_end source.names) (is_end path.names) (rename_at T q.stamp (resolve T from.base source Parent) (resolve T to.base path Parent))
     (rename_at_well T q.stamp (resolve T from.base source Parent) (resolve T to.base path Parent) (resolve_well T from.base source Parent) (resolve_well T to.base path Parent))))
 call_well C T q call = tt
 

@@ -31,14 +31,13 @@ seen_by outcome = max outcome.version (last_version 0 outcome.conflicts)
 
 -- ---- committed
 
--- an entry has the reply: that of the outcome's version, of this request up to the server, made behind the last conflict
+-- an entry has the reply: that of the outcome's version, of this request but for the server, made behind the last conflict
 pub record NamesEntry (journal : List Entry) (request : Request) (front : ℕ) (outcome : Outcome) : Type 0 where
   pub place : ℕ
   pub version : outcome.version ≡ place + 1
   pub entry : Entry
   pub at : EntryAt journal place entry
   pub client : entry.request.client ≡ request.client
-  pub server : entry.request.server ≡ request.server
   pub number : entry.request.number ≡ request.number
   pub stamp : entry.request.stamp ≡ request.stamp
   pub call : entry.request.call ≡ request.call

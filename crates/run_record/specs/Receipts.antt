@@ -1,5 +1,5 @@
 -- What a client's receipts owe to the journal and to its script.
-use Rattle.std.specs.Prelude.{◌≡◌, ◌≢◌, ◌⊎◌, ◌≤◌, ℕ, ◌+◌, true, List, [], ◌∷◌, length, map, All, Some, MatchOption, replicate}
+use Rattle.std.specs.Prelude.{◌≡◌, ◌≢◌, ◌⊎◌, ◌≤◌, ◌<◌, ℕ, ◌+◌, true, List, [], ◌∷◌, length, map, All, Some, MatchOption, replicate}
 use Rattle.conflict_sets.specs.declared.sets.Write.{Write}
 use Rattle.fs_base.specs.Config.{Settings}
 use Rattle.fs_base.specs.declared.call.Request.{Request}
@@ -43,23 +43,39 @@ abbrev pub IsWritten : List Write → List ℕ → Type 0
 IsWritten [] key = ⊥
 IsWritten (write ∷ writes) key = (write.key ≡ key) ⊎ IsWritten writes key
 
--- a conflict names a later entry of another client, which wrote a key that the request may read at the snapshot
-pub record NamesLater (C : Settings) (journal : List Entry) (request : Request) (floor : ℕ) (pair : ℕ × Key) : Type 0 where
-  pub snapshot : ℕ
-  pub from : floor ≤ snapshot
+-- a conflict names a later entry of another client, which wrote the key
+pub record NamesLater (journal : List Entry) (client : ClientId) (floor : ℕ) (pair : ℕ × Key) : Type 0 where
   pub place : ℕ
   pub version : pair.0 ≡ place + 1
-  pub later : snapshot ≤ place
+  pub later : floor ≤ place
   pub entry : Entry
   pub at : EntryAt journal place entry
-  pub other : entry.request.client ≢ request.client
+  pub other : entry.request.client ≢ client
   pub wrote : IsWritten entry.writes.writes (spelled_key pair.1)
-  pub touched : IsTouched (footprint C (tree_at C journal snapshot) request) pair.1
 
 -- versions rise, from above the front
+abbrev pub AreLater : List Entry → ClientId → ℕ → List (ℕ × Key) → Type 0
+AreLater journal client floor [] = Unit {0}
+AreLater journal client floor (pair ∷ pairs) = NamesLater journal client floor pair × AreLater journal client pair.0 pairs
+
+-- the request may read the key at a snapshot before the conflict
+pub record MayMeet (C : Settings) (journal : List Entry) (request : Request) (floor : ℕ) (pair : ℕ × Key) : Type 0 where
+  pub snapshot : ℕ
+  pub from : floor ≤ snapshot
+  pub before : snapshot < pair.0
+  pub touched : IsTouched (footprint C (tree_at C journal snapshot) request) pair.1
+
+-- no attempt begins before the conflict of the one before
+abbrev pub MayMeetAll : Settings → List Entry → Request → ℕ → List (ℕ × Key) → Type 0
+MayMeetAll C journal request floor [] = Unit {0}
+MayMeetAll C journal request floor (pair ∷ pairs) = MayMeet C journal request floor pair × MayMeetAll C journal request pair.0 pairs
+
+-- both, of a request's own conflicts
+abbrev pub IsConflict : Settings → List Entry → Request → ℕ → ℕ × Key → Type 0
+IsConflict C journal request floor pair = NamesLater journal request.client floor pair × MayMeet C journal request floor pair
+
 abbrev pub AreConflicts : Settings → List Entry → Request → ℕ → List (ℕ × Key) → Type 0
-AreConflicts C journal request floor [] = Unit {0}
-AreConflicts C journal request floor (pair ∷ pairs) = NamesLater C journal request floor pair × AreConflicts C journal request pair.0 pairs
+AreConflicts C journal request floor pairs = AreLater journal request.client floor pairs × MayMeetAll C journal request floor pairs
 
 -- ---- receipts
 
@@ -67,23 +83,45 @@ AreConflicts C journal request floor (pair ∷ pairs) = NamesLater C journal req
 abbrev pub outcome_of : Receipt → Outcome
 outcome_of receipt = record { reply = receipt.reply; version = receipt.version; committed = receipt.committed; conflicts = receipt.conflicts }
 
+-- a stop of this server took a request away
+abbrev pub HasStopped : List (ℕ × ℕ) → ℕ → Type 0
+HasStopped [] server = ⊥
+HasStopped (stop ∷ stops) server = (stop.0 ≡ server) ⊎ HasStopped stops server
+
+-- the call was sent to the server: it answered, or it stopped before it could
+abbrev pub WasSentTo : Receipt → ℕ → Type 0
+WasSentTo receipt server = (receipt.server ≡ Some server) ⊎ HasStopped receipt.gone server
+
+-- an entry that the receipt names was made by a server that the call was sent to
+abbrev pub IsMadeBy : List Entry → Receipt → Type 0
+IsMadeBy journal receipt = receipt.committed ≡ true → (place : ℕ) (entry : Entry) → EntryAt journal place entry → receipt.version ≡ place + 1 → WasSentTo receipt entry.request.server
+
 -- a server's receipt is that of a request, whose outcome it tells
-pub record IsServed (C : Settings) (attempts : ℕ) (journal : List Entry) (client : ClientId) (listed : Listed) : Type 0 where
+pub record IsServed (C : Settings) (journal : List Entry) (client : ClientId) (listed : Listed) : Type 0 where
   pub request : Request
   pub client_is : request.client ≡ client
   pub is_of : IsOf request listed.receipt
   pub outcome : IsOutcome C journal request (front_of listed.fronts) (outcome_of listed.receipt)
+  pub made_by : IsMadeBy journal listed.receipt
   pub may : MayTell request.call listed.receipt.reply
-  -- what the plan says of it
+  pub conflicts : AreLater journal client (front_of listed.fronts) listed.receipt.conflicts
+
+-- the footprint of its request has each key that it met as a conflict
+abbrev pub StaysInside : Settings → List Entry → ClientId → Listed → Type 0
+StaysInside C journal client listed = (request : Request) → request.client ≡ client → IsOf request listed.receipt → MayMeetAll C journal request (front_of listed.fronts) listed.receipt.conflicts
+
+-- a server's receipt, and what the plan and the footprint say of it
+pub record IsAnswered (C : Settings) (attempts : ℕ) (journal : List Entry) (client : ClientId) (listed : Listed) : Type 0 where
+  pub served : IsServed C journal client listed
   pub met : AreAttempts attempts listed.receipt.reply (length listed.receipt.conflicts)
-  pub conflicts : AreConflicts C journal request (front_of listed.fronts) listed.receipt.conflicts
+  pub inside : StaysInside C journal client listed
 
 pub record IsReceipt (C : Settings) (attempts : ℕ) (journal : List Entry) (client : ClientId) (listed : Listed) : Type 0 where
   -- of each storage node nothing was seen
   pub fronts : listed.fronts ≡ fronts_of C (front_of listed.fronts)
   pub text : listed.text ≡ text_of listed.receipt.call listed.receipt.reply
   -- each call that is built is answered by a server
-  pub by_server : MatchOption listed.receipt.server ⊥ (λ server. IsServed C attempts journal client listed)
+  pub by_server : MatchOption listed.receipt.server ⊥ (λ server. IsAnswered C attempts journal client listed)
 
 abbrev pub AreReceipts : Settings → ℕ → List Entry → ClientId → List Listed → Type 0
 AreReceipts C attempts journal client [] = Unit {0}

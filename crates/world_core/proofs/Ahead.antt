@@ -1,53 +1,25 @@
 -- Turns, operations and rounds bring clients nearer to their scripts' ends.
-use Rattle.std.proofs.Common.{◌≡◌, ◌≢◌, ℕ, zero, suc, ◌+◌, ◌<◌, ◌≤◌, inl, inr, Bool, true, false, not, ◌||◌, List, [], ◌∷◌, Some, None, Option, length, set, get_or, refl, sym, ap, subst, ◌∙◌, arith}
+use Rattle.std.proofs.Common.{◌≡◌, ◌≢◌, ℕ, suc, ◌+◌, ◌<◌, ◌≤◌, inl, inr, Bool, true, false, not, ◌||◌, List, [], ◌∷◌, Some, None, length, get_or, refl, sym, ap, subst, ◌∙◌, arith}
 use Rattle.std.specs.Prelude.{slice_get}
 use Rattle.std.specs.List.{list_any}
-use Rattle.std.proofs.lemmas.Bool.{cases_eq}
-use Rattle.std.proofs.lemmas.Bool.Decides.{nat_tests}
-use Rattle.std.proofs.lemmas.Option.{slice_get_within, same_Some}
+use Rattle.std.proofs.lemmas.Bool.{cases_Bool, cases_eq}
+use Rattle.std.proofs.lemmas.List.Folds.{list_any_at}
+use Rattle.std.proofs.lemmas.Option.{get_or_from_slice_get, slice_get_within, same_Some}
 use Rattle.fs_base.specs.Config.{Settings}
 use Rattle.txn_task.specs.declared.messages.Entry.{Entry}
-use Rattle.client_core.specs.Client.{ClientView, end_call, has_ended}
-use Rattle.client_core.specs.declared.messages.ClientAsk.TheVariants as client_asks
-use Rattle.client_core.specs.declared.plan.Op.{Op}
-use Rattle.txn_task.specs.declared.outcome.Outcome.{Outcome}
-use Rattle.txn_task.specs.declared.outcome.Receipt.{Receipt}
-use Rattle.run_record.specs.declared.run.Listed.{Listed}
-use Rattle.world_core.specs.declared.seats.Work.{Work}
+use Rattle.client_core.specs.Client.{ClientView, has_ended}
 use Rattle.client_core.specs.declared.plan.Plan.{Plan}
 use Rattle.client_core.specs.declared.plan.Script.{Script}
-use Rattle.world_core.specs.Kept.{IsSeat, IsWorking}
-use Rattle.world_core.specs.Left.{AreAhead, EndsOne, GoesOn, IsAhead, IsOneMore, KeepsOthers, Stays, has_left}
+use Rattle.world_core.specs.Kept.{IsSeat}
+use Rattle.world_core.specs.Left.{AreAhead, EndsOne, GoesOn, IsAhead, KeepsOthers, Stays, has_left}
 use Rattle.world_core.specs.World.{AllSeats, AreTurns, HaveEnded, IsOpTurn, IsOperation, IsTurn, WorldView, plan_of, scripts_of}
 use Rattle.world_core.specs.declared.world.Turn.{Turn}
 use Rattle.world_core.specs.declared.world.Turn.TheVariants as turns
 use Rattle.world_core.specs.declared.seats.Seat.{Seat}
-use Rattle.world_core.proofs.Seating.{script_at, seat_there, slice_get-set_other, slice_get-set_same}
-
--- ---- one turn
-
-pub end_op : (c : ClientView) (server : ℕ) (outcome : Outcome) (o : Option Op) (receipt : Receipt) → client_asks.CallEnd (receipt ∷ []) true ≡ (end_call c server outcome o).1 → (end_call c server outcome o).0.op ≡ c.op + 1
-end_op c server outcome None receipt e = absurd (cc)
-end_op c server outcome (Some step) receipt e = refl
-
-pub there : (seats : List Seat) (k : ℕ) → k < length seats → (seat : Seat) × (slice_get seats k ≡ Some seat)
-there [] k l = absurd (omega arith)
-there (seat ∷ seats) zero l = (seat, refl)
-there (seat ∷ seats) (suc k) l = there seats k (omega arith)
-
--- one seat is another
-pub goes_there : (seats : List Seat) (i k : ℕ) (x y : Seat) → i ≡ k → k < length seats → x ≡ get_or seats i x → IsOneMore x.client.op y.client.op → GoesOn seats (set seats i y) k
-goes_there seats i k x y same l is more = subst (λ n. GoesOn seats (set seats n y) k) (sym same) (record { others = λ j apart. slice_get-set_other seats k j y apart; own = own })
-  where
-    at_x : slice_get seats k ≡ Some x
-    at_x = seat_there seats i k x same l is
-
-    own : (before after : Seat) → slice_get seats k ≡ Some before → slice_get (set seats k y) k ≡ Some after → IsOneMore before.client.op after.client.op
-    own before after at_before at_after =
-        let old : x ≡ before = same_Some x before (sym at_x ∙ at_before) in
-        let new : y ≡ after = same_Some y after (sym (slice_get-set_same seats k y l) ∙ at_after) in
-        subst (λ (b : Seat). IsOneMore b.client.op after.client.op) old
-        (subst (λ (a : Seat). IsOneMore x.client.op a.client.op) new more)
+use Rattle.client_core.proofs.Ending.{ended_is, has_ended_by}
+use Rattle.request_run.proofs.History.{at_there}
+use Rattle.world_core.proofs.Seating.{script_at}
+use Rattle.world_core.proofs.Working.{all_done}
 
 -- ---- turns of one operation
 
@@ -69,7 +41,7 @@ module _ (old mid new : List Seat) (k : ℕ) (within : k < length mid) (so_far :
     where
       own : (before after : Seat) → slice_get old k ≡ Some before → slice_get new k ≡ Some after → after.client.op ≡ before.client.op + 1
       own before after at_before at_after =
-          let between : (seat : Seat) × (slice_get mid k ≡ Some seat) = there mid k within in
+          let between : (seat : Seat) × (slice_get mid k ≡ Some seat) = at_there mid k within in
           let same : between.0.client.op ≡ before.client.op = so_far.own before between.0 at_before between.1 in
           elim (turn.own between.0 after between.1 at_after) [
             | inl still ↦ absurd (apart before after at_before at_after (still ∙ same))
@@ -101,8 +73,8 @@ pub operation : (old mid new : WorldView) (k : ℕ) (turn : Turn) → k < length
     → ((before after : Seat) → slice_get old.seats k ≡ Some before → slice_get new.seats k ≡ Some after → after.client.op ≢ before.client.op) → IsOperation old new k
 operation old mid new k turns.Went from within none so_far h more = record { count = so_far.0; mid = mid; before = so_far.1; none = none; last = h }
 operation old mid new k turns.Idle from within none so_far h more =
-    let here = there mid.seats k within in
-    let first = there old.seats k from in
+    let here = at_there mid.seats k within in
+    let first = at_there old.seats k from in
     absurd (more first.0 here.0 first.1 (ap (λ (w : WorldView). slice_get w.seats k) h.1 ∙ here.1) (none.own first.0 here.0 first.1 here.1))
 
 -- ---- rounds
@@ -118,7 +90,7 @@ pub ahead_more : (rounds c : ℕ) (seats : List Seat) → length seats ≤ c →
 ahead_more rounds c seats all h k seat at = let l : k < length seats = slice_get_within seats k seat at in (h k seat at).1 (omega arith)
 
 all_ended : (c : ClientView) → has_ended c ≡ true → length c.script.ops ≤ c.op
-all_ended c ended = grind (arith, nat_tests)
+all_ended c ended = (ended_is c ended).1
 
 -- the next client had nothing left
 pub ahead_idle : (rounds c : ℕ) (seats : List Seat) → ((seat : Seat) → slice_get seats c ≡ Some seat → has_ended seat.client ≡ true) → AreAheadTo rounds c seats → AreAheadTo rounds (c + 1) seats
@@ -142,7 +114,7 @@ ahead_went rounds c old new l scripts one h k seat at = elim (cases_eq k c) [ in
   where
     here : k ≡ c → IsAhead rounds seat × (k < c + 1 → IsAhead (rounds + 1) seat)
     here same =
-        let before : (b : Seat) × (slice_get old c ≡ Some b) = there old c l in
+        let before : (b : Seat) × (slice_get old c ≡ Some b) = at_there old c l in
         let at_c : slice_get new c ≡ Some seat = ap (slice_get new) (sym same) ∙ at in
         let more : seat.client.op ≡ before.0.client.op + 1 = one.own before.0 seat before.1 at_c in
         let script : seat.client.script ≡ before.0.client.script = same_Some seat.client.script before.0.client.script (sym (script_at new c seat at_c) ∙ (ap (λ (ss : List Script). slice_get ss c) scripts ∙ script_at old c before.0 before.1)) in
@@ -165,14 +137,6 @@ op_ahead rounds c old new turns.Went l same h ahead = ahead_went rounds c old.se
 
 -- ---- no more is left
 
-or_parts : (a b : Bool) → (a || b) ≡ false → (a ≡ false) × (b ≡ false)
-or_parts true b e = absurd (cc)
-or_parts false b e = (refl, e)
-
-not_false : (b : Bool) → not b ≡ false → b ≡ true
-not_false true e = refl
-not_false false e = absurd (cc)
-
 any_none : (test : Seat → Bool) (seats : List Seat) → ((k : ℕ) (seat : Seat) → slice_get seats k ≡ Some seat → test seat ≡ false) → list_any test seats ≡ false
 any_none test [] none = refl
 any_none test (seat ∷ seats) none =
@@ -180,19 +144,14 @@ any_none test (seat ∷ seats) none =
     let rest : list_any test seats ≡ false = any_none test seats (λ k s at. none (suc k) s at) in
     ap (λ b. b || list_any test seats) first ∙ rest
 
-none_any : (test : Seat → Bool) (seats : List Seat) → list_any test seats ≡ false → (k : ℕ) (seat : Seat) → slice_get seats k ≡ Some seat → test seat ≡ false
-none_any test [] none k seat at = absurd (let no : None ≡ Some seat = at in cc)
-none_any test (s ∷ seats) none zero seat at = subst (λ (x : Seat). test x ≡ false) (same_Some s seat at) (or_parts (test s) (list_any test seats) none).0
-none_any test (s ∷ seats) none (suc k) seat at = none_any test seats (or_parts (test s) (list_any test seats) none).1 k seat at
-
 pub have_ended : (seats : List Seat) → has_left seats ≡ false → HaveEnded seats
-have_ended seats none k seat at = not_false (has_ended seat.client) (none_any (λ s. not (has_ended s.client)) seats none k seat at)
-
--- where a request is under way its operation is there
-idle : (C : Settings) (attempts : ℕ) (journal : List Entry) (script : Script) (op : ℕ) (receipts : List Listed) (sent : Bool) (work : Option Work) → IsWorking C attempts journal script op receipts sent work → length script.ops ≤ op → sent ≡ false
-idle C attempts journal script op receipts false work h all = refl
-idle C attempts journal script op receipts true None h all = absurd h
-idle C attempts journal script op receipts true (Some work) h all = absurd (let l : op < length script.ops = slice_get_within script.ops op h.under.step h.under.there in omega arith)
+have_ended seats none k seat at = elim (cases_Bool (has_ended seat.client)) [
+  | inl ended ↦ ended
+  | inr left ↦ absurd
+      (let passes : not (has_ended (get_or seats k seat).client) ≡ true = ap (λ (s : Seat). not (has_ended s.client)) (get_or_from_slice_get seats k seat seat at) ∙ ap not left in
+      let some : has_left seats ≡ true = list_any_at (λ s. not (has_ended s.client)) seats k seat (slice_get_within seats k seat at) passes in
+      cc)
+]
 
 -- a script has at most 4,000 operations, so that as many rounds are enough
 pub none_left : (C : Settings) (attempts : ℕ) (journal : List Entry) (seats : List Seat) → AllSeats C attempts journal seats → AreAhead 4000 seats → has_left seats ≡ false
@@ -201,5 +160,5 @@ none_left C attempts journal seats are ahead = any_none (λ s. not (has_ended s.
     ended : (seat : Seat) (k : ℕ) → IsSeat C attempts journal k seat → IsAhead 4000 seat → has_ended seat.client ≡ true
     ended seat k is far =
         let all : length seat.client.script.ops ≤ seat.client.op = omega (arith, is.script.short) in
-        let rest : seat.client.sent ≡ false = idle C attempts journal seat.client.script seat.client.op seat.receipts seat.client.sent seat.work is.working all in
-        grind (arith, nat_tests)
+        let rest : seat.client.request ≡ None = all_done C attempts journal k seat is all in
+        has_ended_by seat.client rest all

@@ -124,7 +124,7 @@ few_kept w h alive ended short =
 
 pub right_run : (w : WorldView) (r : Result Record Memory) → IsWorld w → w.failed ≡ false → HaveEnded w.seats → IsSoundJournal w.objects.store.config (entries_of w.objects.store.journal)
     → IfOk r (λ run. run.config ≡ w.config) → IfOk r (λ run. run.clients ≡ map (λ (script : Script). script.id) (scripts_of w.seats)) → IfOk r (λ run. run.receipts ≡ receipts_in w.seats)
-    → IfOk r (λ run. run.entries ≡ entries_of w.objects.store.journal) → IfOk r (λ run. run.summary ≡ summary_of w.config run.receipts run.entries)
+    → IfOk r (λ run. run.entries ≡ entries_of w.objects.store.journal) → IfOk r (λ run. run.summary ≡ summary_of w.config run.clients run.receipts run.entries)
     → IfOk r (λ run. IsRight (plan_of w) run)
 right_run w (Ok run) h alive ended sound config clients receipts entries summary =
     right_record w run (subst (λ (C : Settings). IsSoundJournal C (entries_of w.objects.store.journal)) h.config sound) h.distinct (h.seated alive) ended config clients receipts entries summary

@@ -1,7 +1,6 @@
 -- How many conflicts the receipts of a run have.
 use Rattle.std.proofs.Common.{◌≡◌, ℕ, suc, ◌+◌, ◌*◌, ◌^◌, ◌<◌, ◌≤◌, List, [], ◌∷◌, ◌++◌, length, sym, refl, ap, ◌∙◌, append-nil, append_assoc, arith}
 use Rattle.fs_base.specs.Config.{Settings}
-use Rattle.fs_base.specs.declared.call.Request.{Request}
 use Rattle.fs_base.specs.declared.ids.ClientId.{ClientId}
 use Rattle.key_schema.specs.declared.key.Key.{Key}
 use Rattle.txn_task.specs.declared.messages.Entry.{Entry}
@@ -9,14 +8,15 @@ use Rattle.client_core.specs.Plans.{ops_in}
 use Rattle.client_core.specs.declared.plan.Op.{Op}
 use Rattle.client_core.specs.declared.plan.Script.{Script}
 use Rattle.run_record.specs.Follow.{Follow}
-use Rattle.run_record.specs.Receipts.{front_of, AreConflicts, AreReceipts, IsSection, NamesLater}
+use Rattle.run_record.specs.Receipts.{front_of, AreLater, AreReceipts, IsSection, NamesLater}
 use Rattle.run_record.specs.Right.{AreSections, conflicts_in}
 use Rattle.run_record.specs.declared.run.Listed.{Listed}
+use Rattle.histories.proofs.Lists.{at_within}
+use Rattle.run_record.proofs.Counts.{conflicts-append}
 use Rattle.run_record.proofs.Replaying.{follows}
 use Rattle.run_record.proofs.Served.{served}
 use Rattle.world_core.specs.World.{receipts_in}
 use Rattle.world_core.specs.declared.seats.Seat.{Seat}
-use Rattle.world_core.proofs.Growth.{EntryAt_within}
 
 pub receipts-push : (seats : List Seat) (seat : Seat) → receipts_in (seats ++ seat ∷ []) ≡ receipts_in seats ++ seat.receipts
 receipts-push [] seat = append-nil seat.receipts
@@ -26,39 +26,32 @@ receipts-push (x ∷ seats) seat =
 -- ---- one receipt
 
 -- each conflict is of a higher version, and no version is above the journal's length
-conflicts_above : (C : Settings) (journal : List Entry) (request : Request) (floor : ℕ) (pairs : List (ℕ × Key)) → AreConflicts C journal request floor pairs → floor ≤ length journal → floor + length pairs ≤ length journal
-conflicts_above C journal request floor [] h low = omega arith
-conflicts_above C journal request floor (pair ∷ pairs) h low =
-    let one : NamesLater C journal request floor pair = h.0 in
-    let a : floor ≤ one.snapshot = one.from in
-    let b : one.snapshot ≤ one.place = one.later in
+conflicts_above : (journal : List Entry) (client : ClientId) (floor : ℕ) (pairs : List (ℕ × Key)) → AreLater journal client floor pairs → floor ≤ length journal → floor + length pairs ≤ length journal
+conflicts_above journal client floor [] h low = omega arith
+conflicts_above journal client floor (pair ∷ pairs) h low =
+    let one : NamesLater journal client floor pair = h.0 in
+    let a : floor ≤ one.place = one.later in
     let d : pair.0 ≡ one.place + 1 = one.version in
-    let e : one.place < length journal = EntryAt_within journal one.place one.entry one.at in
-    let rest : pair.0 + length pairs ≤ length journal = conflicts_above C journal request pair.0 pairs h.1 (omega arith) in
+    let e : one.place < length journal = at_within journal one.place one.entry one.at in
+    let rest : pair.0 + length pairs ≤ length journal = conflicts_above journal client pair.0 pairs h.1 (omega arith) in
     omega arith
 
-conflicts_few : (C : Settings) (journal : List Entry) (request : Request) (floor : ℕ) (pairs : List (ℕ × Key)) → AreConflicts C journal request floor pairs → length pairs ≤ length journal
-conflicts_few C journal request floor [] h = omega arith
-conflicts_few C journal request floor (pair ∷ pairs) h =
-    let one : NamesLater C journal request floor pair = h.0 in
+conflicts_few : (journal : List Entry) (client : ClientId) (floor : ℕ) (pairs : List (ℕ × Key)) → AreLater journal client floor pairs → length pairs ≤ length journal
+conflicts_few journal client floor [] h = omega arith
+conflicts_few journal client floor (pair ∷ pairs) h =
+    let one : NamesLater journal client floor pair = h.0 in
     let d : pair.0 ≡ one.place + 1 = one.version in
-    let e : one.place < length journal = EntryAt_within journal one.place one.entry one.at in
-    let rest : pair.0 + length pairs ≤ length journal = conflicts_above C journal request pair.0 pairs h.1 (omega arith) in
+    let e : one.place < length journal = at_within journal one.place one.entry one.at in
+    let rest : pair.0 + length pairs ≤ length journal = conflicts_above journal client pair.0 pairs h.1 (omega arith) in
     omega arith
 
 -- ---- all receipts
-
-conflicts_both : (own rest : List Listed) → conflicts_in (own ++ rest) ≡ conflicts_in own + conflicts_in rest
-conflicts_both [] rest = omega arith
-conflicts_both (listed ∷ own) rest =
-    let both : conflicts_in (own ++ rest) ≡ conflicts_in own + conflicts_in rest = conflicts_both own rest in
-    omega arith
 
 module _ (C : Settings) (attempts : ℕ) (journal : List Entry) (short : length journal ≤ 200000) where
   receipts_few : (client : ClientId) (receipts : List Listed) → AreReceipts C attempts journal client receipts → conflicts_in receipts ≤ length receipts * 200000
   receipts_few client [] h = omega arith
   receipts_few client (listed ∷ rest) h =
-      let first : length listed.receipt.conflicts ≤ length journal = conflicts_few C journal (served h.0).request (front_of listed.fronts) listed.receipt.conflicts (served h.0).conflicts in
+      let first : length listed.receipt.conflicts ≤ length journal = conflicts_few journal client (front_of listed.fronts) listed.receipt.conflicts (served h.0).conflicts in
       let others : conflicts_in rest ≤ length rest * 200000 = receipts_few client rest h.1 in
       omega arith
 
@@ -77,7 +70,7 @@ module _ (C : Settings) (attempts : ℕ) (journal : List Entry) (short : length 
       let own : List Listed = h.0 in
       let rest : List Listed = h.1 in
       let section : IsSection C attempts journal k script own = h.3 in
-      let parts : conflicts_in receipts ≡ conflicts_in own + conflicts_in rest = ap (λ (rs : List Listed). conflicts_in rs) h.2 ∙ conflicts_both own rest in
+      let parts : conflicts_in receipts ≡ conflicts_in own + conflicts_in rest = ap (λ (rs : List Listed). conflicts_in rs) h.2 ∙ conflicts-append own rest in
       let first : conflicts_in own ≤ length own * 200000 = receipts_few script.id own section.each in
       let count : length own ≡ length script.ops = follow_length k script 0 script.ops own (follows C attempts journal k script own section) in
       let others : conflicts_in rest ≤ ops_in scripts * 200000 = sections_few (k + 1) scripts rest h.4 in

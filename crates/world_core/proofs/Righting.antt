@@ -1,7 +1,7 @@
 -- From clients that have ended to the record of their run.
-use Rattle.std.proofs.Common.{◌≡◌, ◌≢◌, ℕ, zero, suc, ◌+◌, ◌<◌, ◌≤◌, inl, inr, List, [], ◌∷◌, ◌++◌, map, Option, Some, None, Bool, true, false, cond, eqb, nat_le, length, take, count_by, MatchBool, refl, sym, ap, subst, ◌∙◌, arith, zero-add}
+use Rattle.std.proofs.Common.{◌≡◌, ◌≢◌, ℕ, zero, suc, ◌+◌, ◌<◌, ◌≤◌, inl, inr, List, [], ◌∷◌, ◌++◌, map, Some, None, Bool, true, false, cond, eqb, length, take, count_by, refl, sym, ap, subst, ◌∙◌, arith}
 use Rattle.std.specs.Prelude.{slice_get}
-use Rattle.std.proofs.lemmas.Bool.{and_parts, and_from, cases_Bool, eqb-true, eq-eqb, leb-true}
+use Rattle.std.proofs.lemmas.Bool.{and_parts, and_from, cases_Bool, eqb-true, eq-eqb}
 use Rattle.std.proofs.lemmas.List.{take_all}
 use Rattle.std.proofs.lemmas.List.Sums.{sum_by-append, sum_by-cons}
 use Rattle.std.proofs.lemmas.Option.{same_Some}
@@ -10,35 +10,35 @@ use Rattle.fs_base.specs.declared.ids.ClientId.{ClientId}
 use Rattle.path_walk.specs.Areas.{AreRead}
 use Rattle.path_walk.specs.Footprint.{footprint}
 use Rattle.row_tree.specs.HasTree.{HasTree}
-use Rattle.tree_model.specs.Calls.{effect}
-use Rattle.tree_model.specs.Effects.{Makes, at_length, settled_by}
 use Rattle.tree_model.specs.Tree.{Tree}
-use Rattle.txn_task.specs.Agreeing.{Agrees}
 use Rattle.txn_task.specs.declared.messages.Entry.{Entry}
-use Rattle.client_core.specs.Client.{ClientView, has_ended}
+use Rattle.client_core.specs.Client.{has_ended}
 use Rattle.client_core.specs.Plans.{AreDistinct}
+use Rattle.client_core.specs.Scripts.{scripts_in}
 use Rattle.client_core.specs.declared.plan.Op.{Op}
 use Rattle.client_core.specs.declared.plan.Script.{Script}
 use Rattle.run_record.specs.Legal.{EntryAt, IsLegal, journal_rows, tree_at}
-use Rattle.run_record.specs.Outcomes.{IsSeen, NamesEntry}
 use Rattle.run_record.specs.Follow.{Follow}
-use Rattle.run_record.specs.Receipts.{front_of, outcome_of, AreReceipts, IsReceipt, IsSection, IsServed}
+use Rattle.run_record.specs.Receipts.{AreReceipts, IsReceipt, IsSection}
 use Rattle.run_record.specs.Right.{AreSections, IsRight, IsRightEntry, names_place, summary_of}
-use Rattle.run_record.specs.Touched.{AreTouched}
 use Rattle.run_record.specs.declared.run.Listed.{Listed}
 use Rattle.run_record.specs.declared.run.Record.{Record}
+use Rattle.client_core.proofs.Ending.{ended_is}
+use Rattle.client_core.proofs.Scripts.{scripts_are}
 use Rattle.run_record.proofs.Replaying.{section_of}
-use Rattle.run_record.proofs.Served.{served}
+use Rattle.run_record.proofs.Naming.{naming}
 use Rattle.request_run.specs.Served.{AreCovered}
-use Rattle.world_core.specs.Kept.{AreNamed, HasReceipt, IsSeat, IsWorking}
+use Rattle.world_core.specs.Kept.{HasReceipt, IsSeat}
 use Rattle.request_run.specs.Entries.{entries_of}
 use Rattle.request_run.specs.Sound.{IsSoundJournal}
 use Rattle.world_core.specs.World.{AreSeated, HaveEnded, WorldView, plan_of, receipts_in, scripts_of}
 use Rattle.world_core.specs.declared.seats.Seat.{Seat}
-use Rattle.world_core.specs.declared.seats.Work.{Work}
-use Rattle.request_run.proofs.History.{entry_sound, legal, rows_ascend, rows_tree}
-use Rattle.request_run.proofs.Replies.{made_reply}
+use Rattle.request_run.proofs.Covered.{all_touched}
+use Rattle.request_run.proofs.Ending.{no_refusal}
+use Rattle.request_run.proofs.History.{at_there, entry_sound, legal, rows_ascend, rows_tree}
+use Rattle.world_core.proofs.Receiving.{names_is}
 use Rattle.world_core.proofs.Seating.{one_seat}
+use Rattle.world_core.proofs.Working.{unsent}
 
 -- ---- each entry
 
@@ -46,29 +46,18 @@ pub entry_right : (C : Settings) (journal : List Entry) (place : ℕ) (e : Entry
 entry_right C journal place e s covered at =
     let sound = entry_sound C journal s place e at in
     let tree : HasTree C (journal_rows C journal place) (tree_at C journal place) = rows_tree C journal s place in
-    let tree_here : Tree = tree_at C journal place in
-    let made : (V : Tree) × (at_length (settled_by e.reply) (effect C tree_here e.request) ≡ Makes V e.reply) = sound.0.makes (journal_rows C journal place) tree_here (rows_ascend C journal s place) tree sound.1 in
-    let agreeing : Agrees tree.0 e.reads = record { rows = journal_rows C journal place; ascending = rows_ascend C journal s place; spells = tree.1; agrees = sound.1 } in
     let read = covered place e at in
     record {
       agrees = sound.1;
       sound = sound.0;
-      touched = subst (λ (T : Tree). AreTouched (footprint C T e.request) e.reads) tree.3 (read.0 tree.0 tree.2 agreeing);
-      whole = subst (λ (T : Tree). AreRead e.reads (footprint C T e.request)) tree.3 (read.1 tree.0 tree.2 agreeing);
+      touched = all_touched C e.request e.reads (journal_rows C journal place) (tree_at C journal place) read.0 (rows_ascend C journal s place) tree sound.1;
+      whole = subst (λ (T : Tree). AreRead e.reads (footprint C T e.request)) tree.3 (read.1 tree.0 tree.2 (record { rows = journal_rows C journal place; ascending = rows_ascend C journal s place; spells = tree.1; agrees = sound.1 }));
       none_asked = sound.0.none_asked;
       update = sound.0.update;
-      accepted = made_reply C tree_here made.0 e.request e.reply made.1;
+      accepted = no_refusal C journal s place e at;
     }
 
 -- ---- each client's receipts
-
--- nothing is under way or left
-ended_parts : (sent : Bool) (len op : ℕ) → cond sent false (nat_le len op) ≡ true → (sent ≡ false) × (len ≤ op)
-ended_parts true len op e = absurd (let f : false ≡ true = e in cc)
-ended_parts false len op e = (refl, leb-true len op e)
-
-ended_is : (c : ClientView) → has_ended c ≡ true → (c.sent ≡ false) × (length c.script.ops ≤ c.op)
-ended_is c e = ended_parts c.sent (length c.script.ops) c.op e
 
 section : (C : Settings) (attempts : ℕ) (journal : List Entry) (k : ℕ) (seat : Seat) → IsSeat C attempts journal k seat → has_ended seat.client ≡ true → IsSection C attempts journal k seat.client.script seat.receipts
 section C attempts journal k seat h ended =
@@ -94,49 +83,25 @@ sections C attempts journal (seat ∷ seats) base each =
 
 -- ---- each entry has one receipt
 
-abbrev naming : ℕ → List Listed → ℕ
-naming place receipts = count_by (names_place place) receipts
-
-abbrev one_if : Bool → ℕ
-one_if b = cond b 1 0
+naming_both : (place : ℕ) (own rest : List Listed) → naming place (own ++ rest) ≡ naming place own + naming place rest
+naming_both place own rest = sum_by-append (λ (r : Listed). cond (names_place place r) 1 0) own rest
 
 -- the first receipt and the others
-naming_next : (place : ℕ) (listed : Listed) (rest : List Listed) → naming place (listed ∷ rest) ≡ one_if (names_place place listed) + naming place rest
-naming_next place listed rest = sum_by-cons (λ (r : Listed). one_if (names_place place r)) listed rest
-
-naming_both : (place : ℕ) (own rest : List Listed) → naming place (own ++ rest) ≡ naming place own + naming place rest
-naming_both place own rest = sum_by-append (λ (r : Listed). one_if (names_place place r)) own rest
-
-skipped : (place : ℕ) (listed : Listed) (rest : List Listed) → names_place place listed ≡ false → naming place (listed ∷ rest) ≡ naming place rest
-skipped place listed rest other =
-    naming_next place listed rest ∙ ap (λ (b : Bool). one_if b + naming place rest) other ∙ zero-add (naming place rest)
-
-counted : (place : ℕ) (listed : Listed) (rest : List Listed) → names_place place listed ≡ true → naming place (listed ∷ rest) ≡ 1 + naming place rest
-counted place listed rest names =
-    naming_next place listed rest ∙ ap (λ (b : Bool). one_if b + naming place rest) names
+counted : (place : ℕ) (listed : Listed) (rest : List Listed) (b : Bool) → names_place place listed ≡ b → naming place (listed ∷ rest) ≡ cond b 1 0 + naming place rest
+counted place listed rest b is = sum_by-cons (λ (r : Listed). cond (names_place place r) 1 0) listed rest ∙ ap (λ (c : Bool). cond c 1 0 + naming place rest) is
 
 module _ (C : Settings) (attempts : ℕ) (journal : List Entry) (place : ℕ) (e : Entry) (at : EntryAt journal place e) where
-  -- a receipt that names the entry has its number, and is its client's
   named_is : (client : ClientId) (listed : Listed) → IsReceipt C attempts journal client listed → names_place place listed ≡ true → (e.request.client ≡ client) × (listed.receipt.number ≡ Some e.request.number)
   named_is client listed receipt names =
-      let h : IsServed C attempts journal client listed = served receipt in
       let parts : (listed.receipt.committed ≡ true) × (eqb listed.receipt.version (place + 1) ≡ true) = and_parts listed.receipt.committed (eqb listed.receipt.version (place + 1)) names in
-      let named : NamesEntry journal h.request (front_of listed.fronts) (outcome_of listed.receipt) =
-      subst (λ b. MatchBool b (NamesEntry journal h.request (front_of listed.fronts) (outcome_of listed.receipt)) (IsSeen C journal h.request (front_of listed.fronts) (outcome_of listed.receipt))) parts.0 h.outcome in
-      let version : listed.receipt.version ≡ place + 1 = eqb-true listed.receipt.version (place + 1) parts.1 in
-      let version_named : listed.receipt.version ≡ named.place + 1 = named.version in
-      let places : named.place ≡ place = omega arith in
-      let one : named.entry ≡ e = same_Some named.entry e (sym named.at ∙ (ap (slice_get journal) places ∙ at)) in (
-        ap (λ (x : Entry). x.request.client) (sym one) ∙ (named.client ∙ h.client_is),
-        h.is_of.number ∙ ap (λ (n : ℕ). Some n) (sym named.number ∙ ap (λ (x : Entry). x.request.number) one),
-      )
+      names_is C attempts journal place e at client listed receipt (parts.0, eqb-true listed.receipt.version (place + 1) parts.1)
 
   -- another client's receipts don't name it
   none_other : (client : ClientId) (receipts : List Listed) → e.request.client ≢ client → AreReceipts C attempts journal client receipts → naming place receipts ≡ 0
   none_other client [] n h = refl
   none_other client (listed ∷ rest) n h = elim (cases_Bool (names_place place listed)) [
     | inl names ↦ absurd (n (named_is client listed h.0 names).0)
-    | inr other ↦ skipped place listed rest other ∙ none_other client rest n h.1
+    | inr other ↦ omega (arith, counted place listed rest false other, none_other client rest n h.1)
   ]
 
   -- a receipt in its script's order that names the entry has its ordinal
@@ -151,7 +116,7 @@ module _ (C : Settings) (attempts : ℕ) (journal : List Entry) (place : ℕ) (e
   none_later k script op [] (listed ∷ rest) l h follow = absurd follow
   none_later k script op (step ∷ steps) (listed ∷ rest) l h follow = elim (cases_Bool (names_place place listed)) [
     | inl names ↦ absurd (let n : e.request.number ≡ op + 1 = ordinal_is k script op step steps listed rest h.0 follow names in omega arith)
-    | inr other ↦ skipped place listed rest other ∙ none_later k script (op + 1) steps rest (omega arith) h.1 follow.4
+    | inr other ↦ omega (arith, counted place listed rest false other, none_later k script (op + 1) steps rest (omega arith) h.1 follow.4)
   ]
 
   -- of a client's receipts one does
@@ -162,11 +127,11 @@ module _ (C : Settings) (attempts : ℕ) (journal : List Entry) (place : ℕ) (e
     | inl names ↦
         (let number : e.request.number ≡ op + 1 = ordinal_is k script op step steps listed rest h.0 follow names in
         let none : naming place rest ≡ 0 = none_later k script (op + 1) steps rest (omega arith) h.1 follow.4 in
-        let first : naming place (listed ∷ rest) ≡ 1 + naming place rest = counted place listed rest names in
+        let first : naming place (listed ∷ rest) ≡ 1 + naming place rest = counted place listed rest true names in
         omega arith)
     | inr other ↦ elim has [
       | inl here ↦ absurd (let f : true ≡ false = sym (and_from listed.receipt.committed (eqb listed.receipt.version (place + 1)) here.0 (eq-eqb listed.receipt.version (place + 1) here.1)) ∙ other in cc)
-      | inr later ↦ skipped place listed rest other ∙ one_receipt k script (op + 1) steps rest h.1 follow.4 later
+      | inr later ↦ omega (arith, counted place listed rest false other, one_receipt k script (op + 1) steps rest h.1 follow.4 later)
     ]
   ]
 
@@ -193,29 +158,17 @@ one_in place (seat ∷ seats) (suc k) x at one none =
     let both : naming place (seat.receipts ++ receipts_in seats) ≡ naming place seat.receipts + naming place (receipts_in seats) = naming_both place seat.receipts (receipts_in seats) in
     omega arith
 
-entry_in : (journal : List Entry) (place : ℕ) → place < length journal → (e : Entry) × EntryAt journal place e
-entry_in [] place l = absurd (omega arith)
-entry_in (x ∷ journal) zero l = (x, refl)
-entry_in (x ∷ journal) (suc place) l = entry_in journal place (omega arith)
-
--- a client that has ended has a receipt of each entry
-named_ended : (C : Settings) (attempts : ℕ) (journal : List Entry) (script : Script) (op : ℕ) (receipts : List Listed) (sent : Bool) (work : Option Work) → sent ≡ false → IsWorking C attempts journal script op receipts sent work → AreNamed journal script.id receipts
-named_ended C attempts journal script op receipts false None e h = h
-named_ended C attempts journal script op receipts false (Some work) e h = absurd h
-named_ended C attempts journal script op receipts true None e h = absurd h
-named_ended C attempts journal script op receipts true (Some work) e h = absurd (let f : true ≡ false = e in cc)
-
 pub named_once : (C : Settings) (attempts : ℕ) (journal : List Entry) (seats : List Seat) → AreDistinct (scripts_of seats) → AreSeated C attempts journal seats → HaveEnded seats → (place : ℕ) → place < length journal → count_by (names_place place) (receipts_in seats) ≡ 1
 named_once C attempts journal seats distinct seated ended place l =
-    let here : (e : Entry) × EntryAt journal place e = entry_in journal place l in
+    let here : (e : Entry) × EntryAt journal place e = at_there journal place l in
     owned here.0 here.1 (seated.owned place here.0 here.1)
   where
     owned : (e : Entry) → EntryAt journal place e → (k : ℕ) × (seat : Seat) × (slice_get seats k ≡ Some seat) × (e.request.client ≡ seat.client.script.id) → naming place (receipts_in seats) ≡ 1
     owned e at owner =
         let x : Seat = owner.1 in
         let h : IsSeat C attempts journal owner.0 x = seated.all owner.0 x owner.2 in
-        let still : x.client.sent ≡ false = (ended_is x.client (ended owner.0 x owner.2)).0 in
-        let has : HasReceipt x.receipts place = named_ended C attempts journal x.client.script x.client.op x.receipts x.client.sent x.work still h.working place e at owner.3 in
+        let still : x.client.request ≡ None = (ended_is x.client (ended owner.0 x owner.2)).0 in
+        let has : HasReceipt x.receipts place = unsent C attempts journal owner.0 x h still place e at owner.3 in
         one_in place seats owner.0 x owner.2
         (one_receipt C attempts journal place e at owner.0 x.client.script 0 (take x.client.op x.client.script.ops) x.receipts h.past.each h.past.follow has)
         (λ j z apart at_z. none_other C attempts journal place e at z.client.script.id z.receipts
@@ -224,22 +177,24 @@ named_once C attempts journal seats distinct seated ended place l =
 -- ---- the record
 
 pub right_record : (w : WorldView) (run : Record) → IsSoundJournal w.config (entries_of w.objects.store.journal) → AreDistinct (scripts_of w.seats) → AreSeated w.config w.attempts (entries_of w.objects.store.journal) w.seats → HaveEnded w.seats
-    → run.config ≡ w.config → run.clients ≡ map (λ (script : Script). script.id) (scripts_of w.seats) → run.receipts ≡ receipts_in w.seats → run.entries ≡ entries_of w.objects.store.journal → run.summary ≡ summary_of w.config run.receipts run.entries
+    → run.config ≡ w.config → run.clients ≡ map (λ (script : Script). script.id) (scripts_of w.seats) → run.receipts ≡ receipts_in w.seats → run.entries ≡ entries_of w.objects.store.journal → run.summary ≡ summary_of w.config run.clients run.receipts run.entries
     → IsRight (plan_of w) run
 right_record w run s distinct seated ended config clients receipts entries summary =
     let C : Settings = w.config in
     let journal : List Entry = entries_of w.objects.store.journal in
     let named : (place : ℕ) → place < length journal → naming place (receipts_in w.seats) ≡ 1 = named_once C w.attempts journal w.seats distinct seated ended in
+    let all : scripts_in (plan_of w) ≡ scripts_of w.seats = scripts_are (plan_of w) in
     record {
       config = config;
-      clients = clients;
+      clients = clients ∙ sym (ap (λ (ss : List Script). map (λ (script : Script). script.id) ss) all);
       legal = subst (λ (es : List Entry). IsLegal C es) (sym entries) (legal C journal s);
       rows = subst (λ (es : List Entry). (n : ℕ) → HasTree C (journal_rows C es n) (tree_at C es n)) (sym entries) (rows_tree C journal s);
       entries = subst (λ (es : List Entry). (place : ℕ) (e : Entry) → EntryAt es place e → IsRightEntry C es place e) (sym entries) (λ place e at. entry_right C journal place e s seated.covered at);
-      sections = subst (λ (es : List Entry). AreSections C w.attempts es 0 (scripts_of w.seats) run.receipts) (sym entries)
-          (subst (λ (rs : List Listed). AreSections C w.attempts journal 0 (scripts_of w.seats) rs) (sym receipts)
+      sections = subst (λ (es : List Entry). AreSections C w.attempts es 0 (scripts_in (plan_of w)) run.receipts) (sym entries)
+          (subst (λ (rs : List Listed). AreSections C w.attempts journal 0 (scripts_in (plan_of w)) rs) (sym receipts)
+          (subst (λ (ss : List Script). AreSections C w.attempts journal 0 ss (receipts_in w.seats)) (sym all)
           (sections C w.attempts journal w.seats 0 (λ k z at.
-          (let same : k ≡ 0 + k = omega arith in (subst (λ n. IsSeat C w.attempts journal n z) same (seated.all k z at), ended k z at)))));
+          (let same : k ≡ 0 + k = omega arith in (subst (λ n. IsSeat C w.attempts journal n z) same (seated.all k z at), ended k z at))))));
       named = subst (λ (es : List Entry). (place : ℕ) → place < length es → naming place run.receipts ≡ 1) (sym entries)
           (subst (λ (rs : List Listed). (place : ℕ) → place < length journal → naming place rs ≡ 1) (sym receipts) named);
       summary = summary;

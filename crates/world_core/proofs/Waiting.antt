@@ -13,8 +13,7 @@ use Rattle.run_record.specs.Legal.{journal_rows, tree_at}
 use Rattle.run_record.specs.Right.{waiting_in}
 use Rattle.txn_task.specs.declared.messages.Entry.{Entry}
 use Rattle.request_run.proofs.Answering.{page_same}
-use Rattle.request_run.proofs.Conflicts.{rows_ascending}
-use Rattle.request_run.proofs.History.{rows_tree}
+use Rattle.request_run.proofs.History.{rows_ascend, rows_tree}
 use Rattle.request_run.proofs.Rows.{length_entries}
 use Rattle.request_run.specs.Entries.{entries_of}
 use Rattle.request_run.specs.Sound.{IsOpen, IsSoundJournal}
@@ -31,4 +30,4 @@ page_waits store front limit l h rows begun sound newest low high is short =
     page_same store front l all_doomed h (raised all_doomed) limit rows begun low high is ∙ ap (λ n. rows_between (journal_rows C journal n) all_doomed (raised all_doomed) limit) at in
     let few : length (rows_between last all_doomed (raised all_doomed) limit) < limit = subst (λ (rs : List Row). length rs < limit) page short in
     ap length (page ∙ short_page last all_doomed (raised all_doomed) limit few)
-    ∙ doomed_rows C last (tree_at C journal (length journal)) (rows_ascending C journal sound (length journal)) (rows_tree C journal sound (length journal))
+    ∙ doomed_rows C last (tree_at C journal (length journal)) (rows_ascend C journal sound (length journal)) (rows_tree C journal sound (length journal))

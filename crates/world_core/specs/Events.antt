@@ -39,9 +39,9 @@ IsAtWork C attempts front before after (Some work) = after ≡ before
 pub record HasLearned (C : Settings) (k : ℕ) (before after : Seat) (server front : ℕ) (task : TaskView) : Type 0 where
   pub outcome : Outcome
   pub is : task.outcome ≡ Some outcome
-  pub client : after.client ≡ (end_call before.client server outcome (slice_get before.client.script.ops before.client.op)).0
+  pub client : after.client ≡ (end_call before.client server outcome before.client.request).0
   pub receipt : Receipt
-  pub told : client_asks.CallEnd (receipt ∷ []) true ≡ (end_call before.client server outcome (slice_get before.client.script.ops before.client.op)).1
+  pub told : client_asks.CallEnd (receipt ∷ []) true ≡ (end_call before.client server outcome before.client.request).1
   pub work : after.work ≡ None
   pub receipts : after.receipts ≡ before.receipts ++ record { client = k; fronts = fronts_of C front; receipt = receipt; text = text_of receipt.call receipt.reply } ∷ []
 

@@ -1,20 +1,18 @@
 -- What is kept of a client, from turn to turn.
-use Rattle.std.specs.Prelude.{◌≡◌, ◌⊎◌, ◌≤◌, ℕ, ◌+◌, List, [], ◌∷◌, Option, Some, None, Bool, true, false, length, take, slice_get}
+use Rattle.std.specs.Prelude.{◌≡◌, ◌⊎◌, ◌≤◌, ◌<◌, ℕ, ◌+◌, List, [], ◌∷◌, Option, Some, None, true, length, take, slice_get}
 use Rattle.fs_base.specs.Config.{Settings}
 use Rattle.fs_base.specs.declared.call.Request.{Request}
 use Rattle.fs_base.specs.declared.ids.ClientId.{ClientId}
 use Rattle.txn_task.specs.declared.messages.Entry.{Entry}
-use Rattle.meta_task.specs.Task.{TaskView}
-use Rattle.client_core.specs.Ops.{request_of}
+use Rattle.client_core.specs.Single.{IsClient, single_request}
 use Rattle.client_core.specs.Plans.{IsScript}
 use Rattle.client_core.specs.declared.plan.Op.{Op}
 use Rattle.client_core.specs.declared.plan.Script.{Script}
-use Rattle.run_record.specs.Legal.{EntryAt}
-use Rattle.run_record.specs.Outcomes.{last_version, seen_by}
+use Rattle.run_record.specs.Outcomes.{seen_by}
 use Rattle.run_record.specs.Follow.{Follow}
 use Rattle.run_record.specs.Receipts.{outcome_of, AreReceipts, Rises}
 use Rattle.run_record.specs.declared.run.Listed.{Listed}
-use Rattle.request_run.specs.Served.{IsPending, IsTask}
+use Rattle.request_run.specs.Served.{EachOf, IsPending, IsServed}
 use Rattle.world_core.specs.declared.seats.Seat.{Seat}
 use Rattle.world_core.specs.declared.seats.Work.{Work}
 
@@ -37,42 +35,33 @@ abbrev pub HasReceipt : List Listed → ℕ → Type 0
 HasReceipt [] place = ⊥
 HasReceipt (listed ∷ rest) place = ((listed.receipt.committed ≡ true) × (listed.receipt.version ≡ place + 1)) ⊎ HasReceipt rest place
 
--- each entry of the client has a receipt, or is of this request and was made from this version on
-abbrev pub AreNamedOr : List Entry → ClientId → List Listed → Request → ℕ → Type 0
-AreNamedOr journal client receipts request floor =
-    (place : ℕ) (entry : Entry) → EntryAt journal place entry → entry.request.client ≡ client → HasReceipt receipts place ⊎ ((entry.request ≡ request) × (floor ≤ place))
-
 abbrev pub AreNamed : List Entry → ClientId → List Listed → Type 0
-AreNamed journal client receipts = (place : ℕ) (entry : Entry) → EntryAt journal place entry → entry.request.client ≡ client → HasReceipt receipts place
+AreNamed journal client receipts = EachOf journal client (λ place entry. HasReceipt receipts place)
 
 -- ---- the request under way
 
--- the request of the next operation, before its next answer
-pub record IsUnderWay (C : Settings) (attempts : ℕ) (journal : List Entry) (script : Script) (op : ℕ) (receipts : List Listed) (front : ℕ) (task : TaskView) : Type 0 where
+-- the request of the next operation is being served; a receipt names each entry that the client had made before
+pub record IsWork (C : Settings) (attempts : ℕ) (journal : List Entry) (script : Script) (op : ℕ) (receipts : List Listed) (work : Work) : Type 0 where
   pub step : Op
   pub there : slice_get script.ops op ≡ Some step
-  pub request : task.request ≡ request_of script op step
-  pub from : version_after 0 receipts ≤ front
-  pub front_in : front ≤ length journal
-  pub named : AreNamedOr journal script.id receipts task.request (last_version front task.conflicts)
-  pub task_is : IsTask C attempts journal front task
-
-pub record IsWork (C : Settings) (attempts : ℕ) (journal : List Entry) (script : Script) (op : ℕ) (receipts : List Listed) (work : Work) : Type 0 where
-  pub under : IsUnderWay C attempts journal script op receipts work.front work.task
+  pub from : version_after 0 receipts ≤ work.front
+  pub named : EachOf journal script.id (λ place entry. place < work.front → HasReceipt receipts place)
+  pub served : IsServed C attempts journal (single_request script op step) work.front work.task
   pub pending : IsPending C work.task work.ask
   pub server : work.server ≡ script.home
 
 -- ---- the client
 
 -- nothing is under way, or one request is
-abbrev pub IsWorking : Settings → ℕ → List Entry → Script → ℕ → List Listed → Bool → Option Work → Type 0
-IsWorking C attempts journal script op receipts false None = AreNamed journal script.id receipts
-IsWorking C attempts journal script op receipts true (Some work) = IsWork C attempts journal script op receipts work
-IsWorking C attempts journal script op receipts sent work = ⊥
+abbrev pub IsWorking : Settings → ℕ → List Entry → Script → ℕ → List Listed → Option Request → Option Work → Type 0
+IsWorking C attempts journal script op receipts None None = AreNamed journal script.id receipts
+IsWorking C attempts journal script op receipts (Some request) (Some work) = IsWork C attempts journal script op receipts work
+IsWorking C attempts journal script op receipts under_way work = ⊥
 
 -- what holds of each client, after every turn of any
 pub record IsSeat (C : Settings) (attempts : ℕ) (journal : List Entry) (k : ℕ) (seat : Seat) : Type 0 where
   pub config : seat.client.config ≡ C
   pub script : IsScript C.servers seat.client.script
+  pub client : IsClient seat.client
   pub past : IsPast C attempts journal k seat.client.script seat.client.op seat.receipts
-  pub working : IsWorking C attempts journal seat.client.script seat.client.op seat.receipts seat.client.sent seat.work
+  pub working : IsWorking C attempts journal seat.client.script seat.client.op seat.receipts seat.client.request seat.work

@@ -96,14 +96,20 @@ pub(crate) fn record_of(
     ensures clients { IfOk result (λ run. run.clients ≡ map (λ script. script.id) (scripts_of seats.items)) }
     ensures receipts { IfOk result (λ run. run.receipts ≡ receipts_in seats.items) }
     ensures entries { IfOk result (λ run. run.entries ≡ entries_of store.journal) }
-    ensures summary { IfOk result (λ run. run.summary ≡ summary_of config run.receipts run.entries) }
+    ensures summary { IfOk result (λ run. run.summary ≡ summary_of config run.clients run.receipts run.entries) }
 {
     let clients = ids(alloc, seats.as_slice())?;
     let waiting = waiting_in(&store)?;
     let receipts = receipts(alloc, seats)?;
     let (_opening, journal) = store.into_parts();
     let entries = entries(alloc, journal)?;
-    let summary = counts_of(receipts.as_slice(), entries.as_slice(), waiting);
+    let summary = counts_of(
+        alloc,
+        clients.as_slice(),
+        receipts.as_slice(),
+        entries.as_slice(),
+        waiting,
+    )?;
     Ok(Record {
         config,
         clients,

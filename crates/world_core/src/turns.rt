@@ -3,28 +3,26 @@
 ghost use Rattle.std.specs.Prelude.{◌≡◌, ◌⊎◌, ◌≤◌, ◌<◌, ◌+◌, ◌++◌, ◌∷◌, ◌^◌, [], ℕ, List, Some, None, true, false, length, slice_get, replicate, IfOk, OnOk};
 ghost use Rattle.client_core.specs.Client.{end_call, send, IsSending};
 ghost use Rattle.client_core.specs.declared.messages.ClientAsk.TheVariants as client_asks;
-ghost use Rattle.client_core.specs.declared.plan.Op.{Op};
-ghost use Rattle.meta_task.specs.Task.{new_task, MayTake};
-ghost use Rattle.txn_task.specs.declared.messages.Answer.{Answer as AnswerView};
-ghost use Rattle.txn_task.specs.declared.messages.Entry.{Entry};
+ghost use Rattle.fs_base.specs.declared.call.Request.{Request as RequestView};
+ghost use Rattle.meta_task.specs.Task.{new_task};
 ghost use Rattle.meta_task.specs.declared.waiting.Waiting.TheVariants as waits;
 ghost use Rattle.path_walk.specs.Requests.{IsRequest};
 ghost use Rattle.run_record.specs.Receipts.{fronts_of};
 ghost use Rattle.txn_task.specs.declared.messages.Ask.TheVariants as asks;
 ghost use Rattle.txn_task.specs.declared.outcome.Outcome.{Outcome};
 ghost use Rattle.txn_task.specs.declared.outcome.Receipt.{Receipt};
-ghost use Rattle.client_core.specs.Plans.{AreDistinct, IsScript};
-ghost use Rattle.request_run.specs.Served.{AreCovered};
-ghost use Rattle.world_core.specs.Kept.{IsPast, IsSeat, IsWork};
+ghost use Rattle.client_core.specs.Plans.{AreDistinct};
+ghost use Rattle.request_run.specs.Served.{AreCovered, AreEarlier, IsPending, IsReady, IsServed};
+ghost use Rattle.world_core.specs.Kept.{IsSeat};
 ghost use Rattle.world_core.specs.World.{AreSeated, scripts_of};
 ghost use Rattle.client_core.specs.Client.{has_ended};
 ghost use Rattle.world_core.specs.Events.{Comes, HasExchanged, HasLearned, IsAtWork, IsEvent};
-ghost use Rattle.world_core.specs.Left.{GoesOn, IsOneMore};
+ghost use Rattle.world_core.specs.Left.{GoesOn};
 ghost use Rattle.world_core.specs.declared.seats.Work.{Work as WorkView};
 ghost use Rattle.world_core.specs.declared.seats.Seat.{Seat as SeatView};
-ghost use Rattle.request_run.specs.Entries.{IsGrowth, entries_of, with_entry};
-ghost use Rattle.request_run.specs.Answered.{IsExchange, IsAnswer, MayAnswer};
-ghost use Rattle.world_core.specs.Ready.{IsReady, is_done};
+ghost use Rattle.request_run.specs.Entries.{IsGrowth, entries_of};
+ghost use Rattle.request_run.specs.Answered.{IsExchange};
+ghost use Rattle.world_core.specs.Ready.{is_done};
 ghost use Rattle.request_run.specs.Sound.{IsOpen};
 
 use crate::seats::{Seat, Work};
@@ -32,10 +30,10 @@ use client_core::{ClientAnswer, ClientAsk, ClientState};
 use fs_base::{Config, Items, Memory, Request};
 use kv_store::KvState;
 use meta_task::{MetaEntry, MetaTask};
-use request_run::{exchange, sound_store};
+use request_run::{Serving, begin, serve};
 use run_record::{Listed, text_of};
 use std::alloc::Global;
-use txn_task::{Answer, Ask, Outcome, Receipt};
+use txn_task::{Ask, Outcome, Receipt};
 
 fn let_go(_task: MetaTask) {}
 
@@ -56,7 +54,7 @@ fn take_work(seat: &mut Seat) -> Option<Work>
 
 /// The client's next step, where nothing is under way.
 fn next_step(seat: &mut Seat) -> Result<ClientAsk, Memory>
-    requires { seat.old.client.sent ≡ false }
+    requires { seat.old.client.request ≡ None }
     ensures seat { OnOk result (seat.new ≡ record seat.old { client = (send seat.old.client (slice_get seat.old.client.script.ops seat.old.client.op)).0 }) }
     ensures ask { IfOk result (λ ask. ask ≡ (send seat.old.client (slice_get seat.old.client.script.ops seat.old.client.op)).1) }
     ensures valid { IfOk result (λ ask. IsSending seat.old.client.config ask) }
@@ -71,7 +69,7 @@ fn next_step(seat: &mut Seat) -> Result<ClientAsk, Memory>
     Ok(ask)
 }
 
-/// A request's task, which waits for the answer to its first ask.
+/// The request's work, which waits for the answer to its first ask.
 fn new_work(
     alloc: Global,
     store: &KvState<MetaEntry>,
@@ -81,20 +79,22 @@ fn new_work(
     request: Request,
 ) -> Result<Work, Memory>
     requires valid { IsRequest config request }
+    requires small { request.client.0 < 2 ^ 128 }
     requires from { 1 ≤ attempts }
     requires to { attempts ≤ 64 }
+    requires earlier { AreEarlier (entries_of store.now.journal) request }
     ensures task { IfOk result (λ work. work.task ≡ record (new_task config attempts request) { waiting = waits.Beginning }) }
     ensures ask { IfOk result (λ work. work.ask ≡ asks.Begin) }
     ensures server { IfOk result (λ work. work.server ≡ server) }
-    ensures front { IfOk result (λ work. work.front ≡ length store.now.journal) }
+    ensures front { IfOk result (λ work. work.front ≡ length (entries_of store.now.journal)) }
+    ensures served { IfOk result (λ work. IsReady config attempts (entries_of store.now.journal) request work.front work.task work.ask) }
 {
-    let mut task = MetaTask::new(alloc, request, config, attempts)?;
-    let ask = task.next(Answer::Start)?;
+    let Serving { task, ask, front } = begin(alloc, store, config, attempts, request)?;
     Ok(Work {
         task,
         ask,
         server,
-        front: store.front(),
+        front,
     })
 }
 
@@ -115,7 +115,7 @@ pub(crate) fn start(
     ensures seat { OnOk result (IsSeat config attempts (entries_of store.now.journal) k seat.new) }
     ensures script { seat.new.client.script ≡ seat.old.client.script }
     ensures op { OnOk result (seat.new.client.op ≡ seat.old.client.op) }
-    ensures at_work { OnOk result (IsAtWork config attempts (length store.now.journal) seat.old seat.new seat.old.work) }
+    ensures at_work { OnOk result (IsAtWork config attempts (length (entries_of store.now.journal)) seat.old seat.new seat.old.work) }
 {
     if seat.work.is_some() {
         return Ok(());
@@ -160,10 +160,9 @@ fn only(receipts: Items<Receipt>) -> Receipt
 
 /// The client learns what its call came to, and keeps a receipt.
 fn learn(client: &mut ClientState, server: u8, outcome: Outcome) -> Result<Receipt, Memory>
-    requires sent { client.old.sent ≡ true }
-    requires there { (step : Op) × (slice_get client.old.script.ops client.old.op ≡ Some step) }
-    ensures client { OnOk result (client.new ≡ (end_call client.old server outcome (slice_get client.old.script.ops client.old.op)).0) }
-    ensures receipt { IfOk result (λ receipt. client_asks.CallEnd (receipt ∷ []) true ≡ (end_call client.old server outcome (slice_get client.old.script.ops client.old.op)).1) }
+    requires { (request : RequestView) × (client.old.request ≡ Some request) }
+    ensures client { OnOk result (client.new ≡ (end_call client.old server outcome client.old.request).0) }
+    ensures receipt { IfOk result (λ receipt. client_asks.CallEnd (receipt ∷ []) true ≡ (end_call client.old server outcome client.old.request).1) }
     ensures script { client.new.script ≡ client.old.script }
 {
     match client.next(ClientAnswer::Replied(server, outcome))? {
@@ -184,28 +183,20 @@ fn fronts(alloc: Global, config: &Config, front: u64) -> Result<Items<u64>, Memo
     Ok(fronts)
 }
 
-/// Ends the call with its outcome. The store is there for contracts alone.
+/// Ends the call with its outcome.
 fn finish(
     alloc: Global,
-    _store: &KvState<MetaEntry>,
     config: Config,
-    _attempts: u8,
     k: u16,
     seat: &mut Seat,
     server: u8,
     front: u64,
     task: MetaTask,
 ) -> Result<(), Memory>
-    requires config { seat.old.client.config ≡ config }
-    requires valid { IsScript config.servers seat.old.client.script }
     requires idle { seat.old.work ≡ None }
-    requires sent { seat.old.client.sent ≡ true }
-    requires past { IsPast config _attempts (entries_of _store.now.journal) k seat.old.client.script seat.old.client.op seat.old.receipts }
-    requires server { server ≡ seat.old.client.script.home }
-    requires ready { IsReady config _attempts (entries_of _store.now.journal) k seat.old.client.script seat.old.client.op seat.old.receipts front task asks.Done }
-    ensures seat { OnOk result (IsSeat config _attempts (entries_of _store.now.journal) k seat.new) }
+    requires sent { (request : RequestView) × (seat.old.client.request ≡ Some request) }
+    requires ended { (outcome : Outcome) × (task.outcome ≡ Some outcome) }
     ensures script { seat.new.client.script ≡ seat.old.client.script }
-    ensures op { OnOk result (seat.new.client.op ≡ seat.old.client.op + 1) }
     ensures learned { OnOk result (HasLearned config k seat.old seat.new server front task) }
 {
     let outcome = outcome_of(alloc, &task)?;
@@ -227,26 +218,12 @@ fn is_done(ask: &Ask) -> bool
     matches!(ask, Ask::Done)
 }
 
-/// Gives a client its receipt, or what goes on. The store is there for contracts alone.
-fn settle(
-    alloc: Global,
-    store: &KvState<MetaEntry>,
-    config: Config,
-    attempts: u8,
-    k: u16,
-    seat: &mut Seat,
-    work: Work,
-) -> Result<(), Memory>
-    requires config { seat.old.client.config ≡ config }
-    requires valid { IsScript config.servers seat.old.client.script }
+/// Gives a client its receipt, or what goes on.
+fn settle(alloc: Global, config: Config, k: u16, seat: &mut Seat, work: Work) -> Result<(), Memory>
     requires idle { seat.old.work ≡ None }
-    requires sent { seat.old.client.sent ≡ true }
-    requires past { IsPast config attempts (entries_of store.now.journal) k seat.old.client.script seat.old.client.op seat.old.receipts }
-    requires server { work.server ≡ seat.old.client.script.home }
-    requires ready { IsReady config attempts (entries_of store.now.journal) k seat.old.client.script seat.old.client.op seat.old.receipts work.front work.task work.ask }
-    ensures seat { OnOk result (IsSeat config attempts (entries_of store.now.journal) k seat.new) }
+    requires sent { (request : RequestView) × (seat.old.client.request ≡ Some request) }
+    requires ended { is_done work.ask ≡ true → (outcome : Outcome) × (work.task.outcome ≡ Some outcome) }
     ensures script { seat.new.client.script ≡ seat.old.client.script }
-    ensures op { OnOk result (IsOneMore seat.old.client.op seat.new.client.op) }
     ensures comes { OnOk result (Comes config k seat.old seat.new work (is_done work.ask)) }
 {
     if !is_done(&work.ask) {
@@ -259,41 +236,28 @@ fn settle(
         server,
         front,
     } = work;
-    finish(alloc, store, config, attempts, k, seat, server, front, task)
+    finish(alloc, config, k, seat, server, front, task)
 }
 
-/// One ask of a request. The client is there for contracts alone.
-fn advance(
-    alloc: Global,
-    store: &mut KvState<MetaEntry>,
-    _attempts: u8,
-    _k: u16,
-    _client: &ClientState,
-    _receipts: &Items<Listed>,
-    work: Work,
-) -> Result<Work, Memory>
-    requires begun { IsOpen store.old }
-    requires script { IsScript store.old.config.servers _client.now.script }
-    requires past { IsPast store.old.config _attempts (entries_of store.old.journal) _k _client.now.script _client.now.op _receipts.now }
-    requires working { IsWork store.old.config _attempts (entries_of store.old.journal) _client.now.script _client.now.op _receipts.now work }
-    requires covered { AreCovered store.old.config (entries_of store.old.journal) }
-    ensures ready { IfOk result (λ new. IsReady store.old.config _attempts (entries_of store.new.journal) _k _client.now.script _client.now.op _receipts.now new.front new.task new.ask) }
+/// One ask of a request.
+fn advance(alloc: Global, store: &mut KvState<MetaEntry>, work: Work) -> Result<Work, Memory>
+    requires opened { IsOpen store.old }
+    requires served { IsServed store.old.config work.task.attempts (entries_of store.old.journal) work.task.request work.front work.task }
+    requires pending { IsPending store.old.config work.task work.ask }
+    ensures served { IfOk result (λ new. IsReady store.old.config work.task.attempts (entries_of store.new.journal) work.task.request work.front new.task new.ask) }
     ensures exchanged { IfOk result (λ new. IsExchange store.old.config (entries_of store.old.journal) (entries_of store.new.journal) work.task work.ask new.task new.ask) }
-    ensures server { IfOk result (λ new. new.server ≡ work.server) }
-    ensures front { IfOk result (λ new. new.front ≡ work.front) }
-    ensures past { OnOk result (IsPast store.old.config _attempts (entries_of store.new.journal) _k _client.now.script _client.now.op _receipts.now) }
-    ensures covered { OnOk result (AreCovered store.old.config (entries_of store.new.journal)) }
-    ensures step { IsGrowth store.old store.new _client.now.script.id }
+    ensures work { IfOk result (λ new. new ≡ record work { task = new.task; ask = new.ask }) }
+    ensures grows { IsGrowth store.old store.new work.task.request.client }
+    ensures few { OnOk result (length store.new.journal ≤ 200000) }
+    ensures covered { AreCovered store.old.config (entries_of store.old.journal) → OnOk result (AreCovered store.old.config (entries_of store.new.journal)) }
 {
-    sound_store(store);
     let Work {
-        mut task,
+        task,
         ask,
         server,
         front,
     } = work;
-    let ask = exchange(alloc, store, &mut task, ask)?;
-    sound_store(store);
+    let Serving { task, ask, front } = serve(alloc, store, Serving { task, ask, front })?;
     Ok(Work {
         task,
         ask,
@@ -303,7 +267,7 @@ fn advance(
 }
 
 /// One ask of the client's request, which is under way.
-pub(crate) fn go_on(
+fn go_on(
     alloc: Global,
     store: &mut KvState<MetaEntry>,
     config: Config,
@@ -312,33 +276,48 @@ pub(crate) fn go_on(
     seat: &mut Seat,
 ) -> Result<(), Memory>
     requires config { store.old.config ≡ config }
-    requires begun { IsOpen store.old }
+    requires opened { IsOpen store.old }
     requires seat { IsSeat config attempts (entries_of store.old.journal) k seat.old }
     requires covered { AreCovered config (entries_of store.old.journal) }
     requires there { (work : WorkView) × (seat.old.work ≡ Some work) }
-    ensures seat { OnOk result (IsSeat config attempts (entries_of store.new.journal) k seat.new) }
-    ensures step { IsGrowth store.old store.new seat.old.client.script.id }
-    ensures covered { OnOk result (AreCovered config (entries_of store.new.journal)) }
-    ensures script { seat.new.client.script ≡ seat.old.client.script }
-    ensures op { OnOk result (IsOneMore seat.old.client.op seat.new.client.op) }
+    ensures kept { OnOk result (IsSeat config attempts (entries_of store.new.journal) k seat.new × AreCovered config (entries_of store.new.journal) × (length store.new.journal ≤ 200000)) }
     ensures exchanged { OnOk result (HasExchanged config k (entries_of store.old.journal) (entries_of store.new.journal) seat.old seat.new) }
+    ensures script { seat.new.client.script ≡ seat.old.client.script }
+    ensures step { IsGrowth store.old store.new seat.old.client.script.id }
 {
     let Some(work) = take_work(seat) else {
         unreachable!()
     };
-    let work = advance(
-        alloc,
-        store,
-        attempts,
-        k,
-        &seat.client,
-        &seat.receipts,
-        work,
-    )?;
-    settle(alloc, store, config, attempts, k, seat, work)
+    let work = advance(alloc, store, work)?;
+    settle(alloc, config, k, seat, work)
 }
 
 /// One turn of a client: at most one ask.
+fn turn(
+    alloc: Global,
+    store: &mut KvState<MetaEntry>,
+    config: Config,
+    attempts: u8,
+    k: u16,
+    seat: &mut Seat,
+) -> Result<(), Memory>
+    requires config { store.old.config ≡ config }
+    requires opened { IsOpen store.old }
+    requires from { 1 ≤ attempts }
+    requires to { attempts ≤ 64 }
+    requires left { has_ended seat.old.client ≡ false }
+    requires seat { IsSeat config attempts (entries_of store.old.journal) k seat.old }
+    requires covered { AreCovered config (entries_of store.old.journal) }
+    ensures kept { OnOk result (IsSeat config attempts (entries_of store.new.journal) k seat.new × AreCovered config (entries_of store.new.journal) × (length store.new.journal ≤ 200000)) }
+    ensures event { OnOk result (IsEvent config attempts k (entries_of store.old.journal) (entries_of store.new.journal) seat.old seat.new) }
+    ensures script { seat.new.client.script ≡ seat.old.client.script }
+    ensures step { IsGrowth store.old store.new seat.old.client.script.id }
+{
+    start(alloc, store, config, attempts, k, seat)?;
+    go_on(alloc, store, config, attempts, k, seat)
+}
+
+/// One turn of the client at this place.
 pub(crate) fn event(
     alloc: Global,
     store: &mut KvState<MetaEntry>,
@@ -364,10 +343,12 @@ pub(crate) fn event(
     ensures event { (before after : SeatView) → slice_get seats.old.items k ≡ Some before → slice_get seats.new.items k ≡ Some after
         → OnOk result (IsEvent config attempts k (entries_of store.old.journal) (entries_of store.new.journal) before after) }
 {
-    sound_store(store);
-    let seat = &mut seats[usize::from(k)];
-    start(alloc, store, config, attempts, k, seat)?;
-    go_on(alloc, store, config, attempts, k, seat)?;
-    sound_store(store);
-    Ok(())
+    turn(
+        alloc,
+        store,
+        config,
+        attempts,
+        k,
+        &mut seats[usize::from(k)],
+    )
 }

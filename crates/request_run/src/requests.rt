@@ -1,0 +1,83 @@
+//! A request being served, from its first ask to its end.
+
+ghost use Rattle.std.specs.Prelude.{◌≡◌, ◌≤◌, ◌<◌, ◌^◌, length, IfOk, OnOk};
+ghost use Rattle.meta_task.specs.Task.{new_task};
+ghost use Rattle.meta_task.specs.declared.waiting.Waiting.TheVariants as waits;
+ghost use Rattle.path_walk.specs.Requests.{IsRequest};
+ghost use Rattle.request_run.specs.Answered.{IsExchange};
+ghost use Rattle.request_run.specs.Entries.{IsGrowth, entries_of};
+ghost use Rattle.request_run.specs.Served.{AreCovered, AreEarlier, IsPending, IsReady, IsServed};
+ghost use Rattle.request_run.specs.Sound.{IsOpen};
+ghost use Rattle.txn_task.specs.declared.messages.Ask.TheVariants as asks;
+
+use crate::answers::sound_store;
+use crate::exchanges::exchange;
+use fs_base::{Config, Memory, Request};
+use kv_store::KvState;
+use meta_task::{MetaEntry, MetaTask};
+use std::alloc::Global;
+use txn_task::{Answer, Ask};
+
+/// A request being served.
+#[derive(Drop)]
+pub struct Serving {
+    pub task: MetaTask,
+    /// The one that waits for its answer.
+    pub ask: Ask,
+    /// The length of the journal as the call began.
+    pub front: u64,
+}
+
+/// A request's task, which waits for the answer to its first ask; the call begins now.
+pub fn begin(
+    alloc: Global,
+    store: &KvState<MetaEntry>,
+    config: Config,
+    attempts: u8,
+    request: Request,
+) -> Result<Serving, Memory>
+    requires valid { IsRequest config request }
+    requires small { request.client.0 < 2 ^ 128 }
+    requires from { 1 ≤ attempts }
+    requires to { attempts ≤ 64 }
+    requires earlier { AreEarlier (entries_of store.now.journal) request }
+    ensures task { IfOk result (λ begun. begun.task ≡ record (new_task config attempts request) { waiting = waits.Beginning }) }
+    ensures ask { IfOk result (λ begun. begun.ask ≡ asks.Begin) }
+    ensures front { IfOk result (λ begun. begun.front ≡ length (entries_of store.now.journal)) }
+    ensures served { IfOk result (λ begun. IsReady config attempts (entries_of store.now.journal) request begun.front begun.task begun.ask) }
+{
+    let mut task = MetaTask::new(alloc, request, config, attempts)?;
+    let ask = task.next(Answer::Start)?;
+    Ok(Serving {
+        task,
+        ask,
+        front: store.front(),
+    })
+}
+
+/// The ask that waits is answered by the store: the next one waits, or the request has ended.
+pub fn serve(
+    alloc: Global,
+    store: &mut KvState<MetaEntry>,
+    serving: Serving,
+) -> Result<Serving, Memory>
+    requires opened { IsOpen store.old }
+    requires served { IsServed store.old.config serving.task.attempts (entries_of store.old.journal) serving.task.request serving.front serving.task }
+    requires pending { IsPending store.old.config serving.task serving.ask }
+    ensures served { IfOk result (λ next. IsReady store.old.config serving.task.attempts (entries_of store.new.journal) serving.task.request serving.front next.task next.ask) }
+    ensures exchanged { IfOk result (λ next. IsExchange store.old.config (entries_of store.old.journal) (entries_of store.new.journal) serving.task serving.ask next.task next.ask) }
+    ensures front { IfOk result (λ next. next.front ≡ serving.front) }
+    ensures grows { IsGrowth store.old store.new serving.task.request.client }
+    ensures few { OnOk result (length store.new.journal ≤ 200000) }
+    ensures covered { AreCovered store.old.config (entries_of store.old.journal) → OnOk result (AreCovered store.old.config (entries_of store.new.journal)) }
+{
+    sound_store(store);
+    let Serving {
+        mut task,
+        ask,
+        front,
+    } = serving;
+    let ask = exchange(alloc, store, &mut task, ask)?;
+    sound_store(store);
+    Ok(Serving { task, ask, front })
+}

@@ -1,0 +1,15 @@
+use Rattle.std.proofs.Common.{length, refl, subst}
+use Rattle.std.proofs.lemmas.Result.{on_ok_weaker}
+use Rattle.request_run.specs.Entries.{IsGrowth, entries_of}
+use Rattle.client_core.specs.declared.plan.Script.{Script}
+use Rattle.world_core.proofs.EventLaws.{work_there}
+use Rattle.world_core.proofs.turns.turn.Goals as goal
+
+pub go_on-requires-clause-there : goal.go_on-requires-clause-there
+go_on-requires-clause-there c = work_there c.args.config c.args.attempts (length (entries_of c.args.store.now.journal)) c.args.seat.now c.start.new.seat c.args.seat.now.work refl c.in_ok-start.ensures.at_work
+
+pub returns-clause-event : goal.returns-clause-event
+returns-clause-event c = on_ok_weaker c.go_on.result (λ exchanged. record { sent = c.start.new.seat; at_work = c.in_ok-start.ensures.at_work; exchanged = exchanged }) c.go_on.ensures.exchanged
+
+pub returns-clause-step : goal.returns-clause-step
+returns-clause-step c = subst (λ (s : Script). IsGrowth c.args.store.now c.go_on.new.store s.id) c.start.ensures.script c.go_on.ensures.step
