@@ -51,7 +51,7 @@ module _ (old mid new : List Seat) (k : ℕ) (within : k < length mid) (so_far :
 -- a turn, whatever it did
 pub turn_goes : (old new : WorldView) (k : ℕ) (turn : Turn) → IsTurn old new k turn → GoesOn old.seats new.seats k
 turn_goes old new k turns.Idle h = subst (λ (w : WorldView). GoesOn old.seats w.seats k) (sym h.1) (record { others = λ j apart. refl; own = λ before after at_before at_after. inl (ap (λ (s : Seat). s.client.op) (same_Some after before (sym at_after ∙ at_before))) })
-turn_goes old new k turns.Went h = h.1
+turn_goes old new k turns.Went h = h.seats
 
 module _ (old new : List Seat) (k : ℕ) (x y : Seat) (m n : ℕ) (at_x : slice_get old k ≡ Some x) (at_y : slice_get new k ≡ Some y) (is_m : m ≡ x.client.op) (is_n : n ≡ y.client.op) where
   op_of : (seats : List Seat) (x seat : Seat) → slice_get seats k ≡ Some x → slice_get seats k ≡ Some seat → x.client.op ≡ seat.client.op

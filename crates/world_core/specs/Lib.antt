@@ -1,3 +1,4 @@
+pub mod EventList
 pub mod Events
 pub mod Kept
 pub mod Left

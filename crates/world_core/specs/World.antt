@@ -1,5 +1,5 @@
 -- Clients and servers over one store.
-use Rattle.std.specs.Prelude.{◌≡◌, ◌≤◌, ℕ, zero, suc, List, [], ◌∷◌, ◌++◌, Bool, true, false, length, map, slice_get, Some, None}
+use Rattle.std.specs.Prelude.{◌≡◌, ◌≤◌, ◌<◌, ℕ, zero, suc, List, [], ◌∷◌, ◌++◌, Bool, true, false, length, map, slice_get, Some, None}
 use Rattle.fs_base.specs.Config.{Settings}
 use Rattle.txn_task.specs.declared.messages.Entry.{Entry}
 use Rattle.client_core.specs.Client.{has_ended, new_client}
@@ -15,7 +15,7 @@ use Rattle.world_core.specs.Kept.{IsSeat}
 use Rattle.request_run.specs.Entries.{entries_of}
 use Rattle.world_core.specs.Events.{IsEvent}
 use Rattle.world_core.specs.Left.{EndsOne, GoesOn, Stays}
-use Rattle.world_core.specs.Objects.{Objects}
+use Rattle.world_core.specs.Objects.{IsStep, Objects}
 use Rattle.request_run.specs.Sound.{IsOpen}
 use Rattle.world_core.specs.declared.seats.Seat.{Seat}
 use Rattle.world_core.specs.declared.world.Turn.{Turn}
@@ -95,10 +95,22 @@ HasEvent old new client =
     (before after : Seat) → slice_get old.seats client ≡ Some before → slice_get new.seats client ≡ Some after
     → IsEvent old.config old.attempts client (entries_of old.objects.store.journal) (entries_of new.objects.store.journal) before after
 
+-- a turn that went on: one event of the client. The plan stays, the objects take at most one step, and memory sufficed
+pub record HasGone (old new : WorldView) (client : ℕ) : Type 0 where
+  pub within : client < length old.seats
+  pub left : HasEnded old client false
+  pub seats : GoesOn old.seats new.seats client
+  pub event : HasEvent old new client
+  pub same_plan : plan_of new ≡ plan_of old
+  pub objects : (seat : Seat) → slice_get old.seats client ≡ Some seat → IsStep old.objects new.objects seat.client.script.id
+  pub was_alive : old.failed ≡ false
+  pub alive : new.failed ≡ false
+  pub world : IsWorld new
+
 -- where it has nothing left nothing changes
 abbrev pub IsTurn : WorldView → WorldView → ℕ → Turn → Type 0
 IsTurn old new client turns.Idle = HasEnded old client true × (new ≡ old)
-IsTurn old new client turns.Went = HasEnded old client false × GoesOn old.seats new.seats client × HasEvent old new client
+IsTurn old new client turns.Went = HasGone old new client
 
 -- so many turns of the client, each of which went on
 abbrev pub AreTurns : WorldView → WorldView → ℕ → ℕ → Type 0

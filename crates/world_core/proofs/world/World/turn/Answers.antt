@@ -1,11 +1,13 @@
-use Rattle.std.proofs.Common.{◌≡◌, ◌<◌, Some, length, sym, ap, subst, ◌∙◌}
+use Rattle.std.proofs.Common.{◌≡◌, ◌<◌, List, Some, length, refl, sym, ap, subst, ◌∙◌}
 use Rattle.std.specs.Prelude.{slice_get}
 use Rattle.world_core.specs.Objects.{no_histories}
 use Rattle.request_run.specs.Entries.{entries_of}
 use Rattle.world_core.specs.Events.{IsEvent}
 use Rattle.world_core.specs.Left.{GoesOn}
 use Rattle.world_core.specs.declared.seats.Seat.{Seat}
-use Rattle.world_core.specs.World.{WorldView}
+use Rattle.client_core.specs.declared.plan.Plan.{Plan}
+use Rattle.client_core.specs.declared.plan.Script.{Script}
+use Rattle.world_core.specs.World.{WorldView, plan_of}
 use Rattle.world_core.proofs.Closing.{grown_step, not_ended, world_went}
 use Rattle.world_core.proofs.world.World.turn.Goals as goal
 
@@ -21,17 +23,27 @@ invariant_of-self-2 c =
     c.self.invariant c.event.ensures.scripts c.event.ensures.config c.event.ensures.begun c.in_ok-event.ensures.seated
 
 pub returns-clause-turn : goal.returns-clause-turn
-returns-clause-turn c = (
-  λ seat at.
-      not_ended c.self.inside.seats.items c.from.result c.args.client c.index.result.now c.has_ended.result c.from.ensures (subst (λ (w : WorldView). c.args.client < length w.seats) (sym c.self.view_is) c.requires) c.index.ensures
-      c.has_ended.ensures c.if-has_ended.false seat (ap (λ (w : WorldView). slice_get w.seats c.args.client) c.self.view_is ∙ at),
-  subst (λ (w : WorldView). GoesOn w.seats c.event.new.seats.items c.args.client) c.self.view_is c.in_ok-event.ensures.goes,
-  subst
-      (λ (w : WorldView).
-      (before after : Seat) → slice_get w.seats c.args.client ≡ Some before → slice_get c.event.new.seats.items c.args.client ≡ Some after
-      → IsEvent w.config w.attempts c.args.client (entries_of w.objects.store.journal) (entries_of c.event.new.store.journal) before after)
-      c.self.view_is c.in_ok-event.ensures.event,
-)
+returns-clause-turn c =
+    record {
+      within = c.requires;
+      left = λ seat at.
+          not_ended c.self.inside.seats.items c.from.result c.args.client c.index.result.now c.has_ended.result c.from.ensures (subst (λ (w : WorldView). c.args.client < length w.seats) (sym c.self.view_is) c.requires) c.index.ensures
+          c.has_ended.ensures c.if-has_ended.false seat (ap (λ (w : WorldView). slice_get w.seats c.args.client) c.self.view_is ∙ at);
+      seats = subst (λ (w : WorldView). GoesOn w.seats c.event.new.seats.items c.args.client) c.self.view_is c.in_ok-event.ensures.goes;
+      event = subst
+          (λ (w : WorldView).
+          (before after : Seat) → slice_get w.seats c.args.client ≡ Some before → slice_get c.event.new.seats.items c.args.client ≡ Some after
+          → IsEvent w.config w.attempts c.args.client (entries_of w.objects.store.journal) (entries_of c.event.new.store.journal) before after)
+          c.self.view_is c.in_ok-event.ensures.event;
+      same_plan = ap (λ (scripts : List Script). record { config = c.self.inside.config; attempts = c.self.inside.attempts; clients = scripts; schedule = c.self.inside.schedule }) c.event.ensures.scripts ∙ ap plan_of c.self.view_is;
+      objects = λ seat at.
+          grown_step c.args.self.now.objects c.self.inside.store c.event.new.store (no_histories c.self.inside.config.nodes) seat.client.script.id (ap (λ (w : WorldView). w.objects) c.self.view_is)
+          (c.event.ensures.step seat (ap (λ (w : WorldView). slice_get w.seats c.args.client) c.self.view_is ∙ at));
+      was_alive = ap (λ (w : WorldView). w.failed) (sym c.self.view_is) ∙ c.if-self.false;
+      alive = refl;
+      world = world_went c.self.inside.config c.self.inside.attempts c.self.inside.store c.event.new.store (no_histories c.self.inside.config.nodes) c.self.inside.seats.items c.event.new.seats.items c.self.inside.schedule c.self.inside.failed
+          c.self.invariant c.event.ensures.scripts c.event.ensures.config c.event.ensures.begun c.in_ok-event.ensures.seated;
+    }
 
 pub returns-clause-step : goal.returns-clause-step
 returns-clause-step c =
