@@ -1,0 +1,10 @@
+pub mod Along
+pub mod Lengths
+pub mod Meeting
+pub mod OneEvent
+pub mod Places
+pub mod Receiving
+pub mod Rising
+pub mod Running
+pub mod Since
+pub mod Telling

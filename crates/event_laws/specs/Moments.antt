@@ -1,0 +1,101 @@
+-- Moments in a list of events: where a call began, where an attempt began, and what an event told.
+use Rattle.std.specs.Prelude.{◌≡◌, ◌⊎◌, ℕ, ◌==◌, ◌&&◌, List, [], ◌∷◌, ◌++◌, Option, Some, None, Bool, true, false, length, slice_get, MatchBool, if◌then◌else◌}
+use Rattle.key_schema.specs.declared.key.Key.{Key}
+use Rattle.txn_task.specs.declared.messages.Answer.{Answer}
+use Rattle.txn_task.specs.declared.messages.Answer.TheVariants as answers
+use Rattle.txn_task.specs.declared.messages.Ask.{Ask}
+use Rattle.txn_task.specs.declared.messages.Ask.TheVariants as asks
+use Rattle.txn_task.specs.declared.messages.Entry.{Entry}
+use Rattle.run_record.specs.declared.run.Listed.{Listed}
+use Rattle.request_run.specs.Entries.{entries_of}
+use Rattle.world_core.specs.EventList.{Event}
+use Rattle.world_core.specs.Events.{IsEvent}
+use Rattle.world_core.specs.declared.seats.Seat.{Seat}
+use Rattle.world_core.specs.declared.seats.Work.{Work}
+
+-- ---- what a client's next event does first
+
+-- it sends the next request, since none is under way
+abbrev pub is_free : Option Work → Bool
+is_free None = true
+is_free (Some work) = false
+
+-- it begins an attempt: that of the request that it sends, or of the one under way
+abbrev pub is_begin : Ask → Bool
+is_begin asks.Begin = true
+is_begin ask = false
+
+abbrev pub next_ask : Option Work → Ask
+next_ask None = asks.Begin
+next_ask (Some work) = work.ask
+
+abbrev pub is_beginning : Option Work → Bool
+is_beginning work = is_begin (next_ask work)
+
+-- ---- the events that do so
+
+abbrev pub has_work : (Option Work → Bool) → Option Seat → Bool
+has_work test None = false
+has_work test (Some seat) = test seat.work
+
+abbrev pub is_of : (Option Work → Bool) → ℕ → Event → Bool
+is_of test client event = (event.client == client) && has_work test (slice_get event.before.seats client)
+
+-- the event is the first of a call of the client
+abbrev pub begins_call : ℕ → Event → Bool
+begins_call client event = is_of is_free client event
+
+-- the event's ask is a Begin of the client
+abbrev pub begins_attempt : ℕ → Event → Bool
+begins_attempt client event = is_of is_beginning client event
+
+-- one of these events passes the test, and just before the newest that does the journal had this length
+abbrev pub IsLengthAt : (Event → Bool) → List Event → ℕ → Type 0
+IsLengthAt test [] count = ⊥
+IsLengthAt test (event ∷ earlier) count = MatchBool (test event) (count ≡ length event.before.objects.store.journal) (IsLengthAt test earlier count)
+
+-- the events before the newest that passes the test
+abbrev pub events_before : (Event → Bool) → List Event → List Event
+events_before test [] = []
+events_before test (event ∷ earlier) = if test event then earlier else events_before test earlier
+
+-- one of these is this one
+abbrev pub IsAmong : {X : Type 0} → X → List X → Type 0
+IsAmong one [] = ⊥
+IsAmong one (other ∷ others) = (one ≡ other) ⊎ IsAmong one others
+
+-- ---- what an event told
+
+-- the ask was answered so
+pub record HasAsked (event : Event) (ask : Ask) (answer : Answer) : Type 0 where
+  pub seat : Seat
+  pub later : Seat
+  pub was : slice_get event.before.seats event.client ≡ Some seat
+  pub is : slice_get event.after.seats event.client ≡ Some later
+  pub turn : IsEvent event.before.config event.before.attempts event.client (entries_of event.before.objects.store.journal) (entries_of event.after.objects.store.journal) seat later
+  pub ask_is : turn.exchanged.work.ask ≡ ask
+  pub answer_is : turn.exchanged.exchange.answer ≡ answer
+
+-- the client learned what its call had come to, and kept this receipt
+pub record HasTold (event : Event) (listed : Listed) : Type 0 where
+  pub seat : Seat
+  pub later : Seat
+  pub was : slice_get event.before.seats event.client ≡ Some seat
+  pub is : slice_get event.after.seats event.client ≡ Some later
+  pub more : later.receipts ≡ seat.receipts ++ listed ∷ []
+
+-- the client learned so in one of these events
+abbrev pub IsToldIn : ℕ → Listed → List Event → Type 0
+IsToldIn client listed [] = ⊥
+IsToldIn client listed (event ∷ earlier) = ((event.client ≡ client) × HasTold event listed) ⊎ IsToldIn client listed earlier
+
+-- an attempt of the client met this conflict
+pub record HasMet (client : ℕ) (pair : ℕ × Key) (event : Event) : Type 0 where
+  pub own : event.client ≡ client
+  pub entry : Entry
+  pub asked : HasAsked event (asks.Commit entry) (answers.Conflict pair.0 pair.1)
+
+-- so it was in one of these events, back to the first of the client's call
+abbrev pub IsMetIn : ℕ → ℕ × Key → List Event → Type 0
+IsMetIn client pair [] = ⊥
+IsMetIn client pair (event ∷ earlier) = HasMet client pair event ⊎ ((begins_call client event ≡ false) × IsMetIn client pair earlier)
