@@ -7,8 +7,8 @@ use Rattle.world_core.proofs.Closing.{few_kept, right_run}
 use Rattle.world_core.proofs.OrderLaws.{kept_of}
 use Rattle.world_core.proofs.world.World.into_record.Goals as goal
 
-pub record_of-requires-few : goal.record_of-requires-few
-record_of-requires-few c =
+pub record_of-requires-clause-few : goal.record_of-requires-clause-few
+record_of-requires-clause-few c =
     few_kept _ c.self.invariant c.if-self.false (subst (λ (w : WorldView). HaveEnded w.seats) (sym c.self.view_is) (have_ended c.args.self.seats c.requires)) c.sound_store.ensures.few
 
 pub returns-clause-right : goal.returns-clause-right
