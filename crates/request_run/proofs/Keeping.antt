@@ -28,6 +28,7 @@ use Rattle.tree_model.specs.Walk.{resolve}
 use Rattle.tree_model.proofs.ApplyLaws.{apply_new, settle_at}
 use Rattle.tree_model.proofs.LinkingLaws.{link_is, unlink_is, rmdir_is}
 use Rattle.tree_model.proofs.MapLaws.{ids, get-set_same, get-set_other}
+use Rattle.tree_model.proofs.RenameLaws.{rename_is}
 
 -- ---- effects
 
@@ -92,6 +93,8 @@ update_keeps C T q (calls.Setattr place changes) is = by_words (Keeps T) (path_o
 update_keeps C T q (calls.Link from to) is = link_is (Keeps T) T q.stamp (λ code. tt) (λ dir name id node is. refl) from to
 update_keeps C T q (calls.Unlink place) is = unlink_is (Keeps T) T q.stamp (λ code. tt) (λ dir name id. refl) (λ dir name id node is. refl) (λ dir name id node is. refl) place
 update_keeps C T q (calls.Rmdir place) is = rmdir_is (Keeps T) T q.stamp (λ code. tt) (λ dir name id. refl) place
+update_keeps C T q (calls.Rename from to) is =
+    rename_is (Keeps T) T q.stamp (λ code. tt) refl (λ a b id. refl) (λ a b id dir name old. refl) (λ a b id dir name old node at. refl) (λ a b id dir name old node at. refl) from to
 update_keeps C T q (calls.Lookup place) is = absurd (cc)
 update_keeps C T q (calls.Stat place) is = absurd (cc)
 update_keeps C T q (calls.List place) is = absurd (cc)

@@ -31,6 +31,7 @@ use Rattle.tree_model.specs.Finding.{found_of, stat_at, list_at, readlink_at, ta
 use Rattle.tree_model.specs.Tree.{Tree, next_at, node_with}
 use Rattle.tree_model.specs.Walk.{resolve}
 use Rattle.tree_model.proofs.LinkingLaws.{link_is, unlink_is, rmdir_is}
+use Rattle.tree_model.proofs.RenameLaws.{rename_is}
 use Rattle.run_record.specs.Right.{IsNoRefusal}
 
 abbrev RepliesWell : Effect → Type 0
@@ -141,6 +142,8 @@ call_well C T q (calls.Setattr place changes) = by_path (path_of place.text) (λ
 call_well C T q (calls.Link from to) = link_is RepliesWell T q.stamp (λ code. tt) (λ dir name id node is. tt) from to
 call_well C T q (calls.Unlink place) = unlink_is RepliesWell T q.stamp (λ code. tt) (λ dir name id. tt) (λ dir name id node is. tt) (λ dir name id node is. tt) place
 call_well C T q (calls.Rmdir place) = rmdir_is RepliesWell T q.stamp (λ code. tt) (λ dir name id. tt) place
+call_well C T q (calls.Rename from to) =
+    rename_is RepliesWell T q.stamp (λ code. tt) tt (λ a b id. tt) (λ a b id dir name old. tt) (λ a b id dir name old node at. tt) (λ a b id dir name old node at. tt) from to
 call_well C T q call = tt
 
 pub made_reply : (C : Settings) (T V : Tree) (q : Request) (reply : Reply) → at_length (settled_by reply) (effect C T q) ≡ Makes V reply → IsNoRefusal reply
