@@ -15,8 +15,7 @@ use Rattle.client_core.specs.declared.plan.Op.{Op}
 use Rattle.client_core.specs.declared.plan.Op.TheVariants as ops
 use Rattle.fs_base.specs.Config.{Settings}
 use Rattle.fs_base.specs.declared.ids.ClientId.{ClientId}
-use Rattle.path_walk.specs.Requests.{IsRequest}
-use Rattle.tree_model.specs.Calls.{is_built}
+use Rattle.path_walk.specs.Requests.{IsRequest, is_built}
 use Rattle.client_core.specs.Ops.{call_of, request_of, stamp_of, HasBytes}
 use Rattle.client_core.specs.declared.plan.Script.{Script}
 

@@ -1,7 +1,6 @@
 ghost use Rattle.std.specs.Prelude.{◌≡◌, [], IfOk, OnOk, IsTrue};
-ghost use Rattle.tree_model.specs.Calls.{is_built};
 ghost use Rattle.path_walk.specs.Owed.{HasStepped};
-ghost use Rattle.path_walk.specs.Requests.{IsRequest};
+ghost use Rattle.path_walk.specs.Requests.{IsRequest, is_built};
 ghost use Rattle.op_attr.specs.Attr.{IsAttrCall};
 ghost use Rattle.op_create.specs.Create.{IsCreateCall};
 ghost use Rattle.op_link.specs.Link.{IsLinkCall};

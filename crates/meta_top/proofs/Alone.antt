@@ -15,7 +15,8 @@ use Rattle.fs_base.specs.declared.reply.Reply.{Reply}
 use Rattle.fs_base.specs.declared.reply.Reply.TheVariants.{Refused}
 use Rattle.key_schema.specs.declared.key.Key.{Key}
 use Rattle.tree_model.specs.declared.kept.KeptReply.{KeptReply}
-use Rattle.tree_model.specs.Calls.{apply, is_built, is_query}
+use Rattle.tree_model.specs.Calls.{apply, is_query}
+use Rattle.path_walk.specs.Requests.{is_built}
 use Rattle.tree_model.specs.Effects.{settled_by}
 use Rattle.tree_model.specs.Tree.{Tree, new_tree}
 use Rattle.txn_task.specs.declared.messages.Entry.{Entry}

@@ -14,7 +14,8 @@ use Rattle.tree_model.specs.declared.node.NodePart.{NodePart}
 use Rattle.tree_model.specs.declared.node.NodePart.TheVariants.{Dir, File, Link}
 use Rattle.tree_model.specs.declared.walk.Walked.{Walked}
 use Rattle.tree_model.specs.declared.walk.Walked.TheVariants.{At, AtParent, NoName, Stopped}
-use Rattle.tree_model.specs.Calls.{effect_of, is_built, is_query}
+use Rattle.tree_model.specs.Calls.{effect_of, is_query}
+use Rattle.path_walk.specs.Requests.{is_built}
 use Rattle.tree_model.specs.Effects.{Effect, Leaves, Makes, Settles, refuses, on_path}
 use Rattle.tree_model.specs.Tree.{Tree, next_at}
 use Rattle.tree_model.specs.Creating.{make, make_at, add_child, add_in, unless_there, is_layout, new_dir, new_file, new_link}

@@ -7,7 +7,8 @@ use Rattle.fs_base.specs.declared.call.Request.{Request}
 use Rattle.fs_base.specs.declared.reply.Reply.{Reply}
 use Rattle.fs_base.specs.declared.reply.Reply.TheVariants.{Refused, Settled}
 use Rattle.tree_model.specs.declared.kept.KeptReply.{KeptReply}
-use Rattle.tree_model.specs.Calls.{effect, apply, is_built, is_query, settle}
+use Rattle.tree_model.specs.Calls.{effect, apply, is_query, settle}
+use Rattle.path_walk.specs.Requests.{is_built}
 use Rattle.tree_model.specs.Effects.{Effect, Leaves, Makes, Settles}
 use Rattle.tree_model.specs.Tree.{Tree}
 use Rattle.tree_model.proofs.ApplyLaws.{apply_new}

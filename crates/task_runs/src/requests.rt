@@ -6,10 +6,10 @@ ghost use Rattle.meta_task.specs.declared.waiting.Waiting.TheVariants as waits;
 use anyhow::{Result, bail};
 use fs_base::{Call, ClientId, Config, Request};
 use meta_task::MetaTask;
+use path_walk::is_built;
 use row_records::{call_read, call_write};
 use std::alloc::Global;
 use test_support::call_of;
-use tree_model::is_built;
 
 /// The call with its stamp, as it is read from the bytes that are written of it. So its numbers are in their ranges.
 fn ranged(alloc: Global, stamp: u64, call: &Call) -> Result<(u64, Call)>

@@ -16,25 +16,21 @@ use Rattle.tree_model.specs.Linking.{link, unlink, rmdir}
 use Rattle.tree_model.specs.Moving.{rename}
 use Rattle.tree_model.specs.Tree.{Tree}
 
--- the calls that servers take
-abbrev pub is_built : Call → Bool
-is_built (calls.Lookup place) = true
-is_built (calls.Stat place) = true
-is_built (calls.List place) = true
-is_built (calls.Readlink place) = true
-is_built (calls.Mkdir place mode layout) = true
-is_built (calls.Create place mode layout) = true
-is_built (calls.Symlink place target) = true
-is_built (calls.Setattr place changes) = true
-is_built (calls.Link from to) = true
-is_built (calls.Unlink place) = true
-is_built (calls.Rmdir place) = true
-is_built _ = false
-
--- the calls whose effect is told here: those, and rename, which no operation does yet
+-- the calls whose effect is told here
 abbrev pub is_told : Call → Bool
+is_told (calls.Lookup place) = true
+is_told (calls.Stat place) = true
+is_told (calls.List place) = true
+is_told (calls.Readlink place) = true
+is_told (calls.Mkdir place mode layout) = true
+is_told (calls.Create place mode layout) = true
+is_told (calls.Symlink place target) = true
+is_told (calls.Setattr place changes) = true
+is_told (calls.Link from to) = true
+is_told (calls.Unlink place) = true
+is_told (calls.Rmdir place) = true
 is_told (calls.Rename from to) = true
-is_told call = is_built call
+is_told _ = false
 
 -- a query changes nothing, and its reply isn't kept
 abbrev pub is_query : Call → Bool

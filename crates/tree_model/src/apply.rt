@@ -2,7 +2,7 @@ ghost use Rattle.std.specs.Prelude.{◌≡◌, ◌<◌, ◌≤◌, Bool, false, 
 ghost use Rattle.std.specs.FinMap.{get};
 ghost use Rattle.std.specs.Option.{is_some};
 ghost use Rattle.tree_model.specs.Effects.{Leaves};
-ghost use Rattle.tree_model.specs.Calls.{apply, after_kept, effect, is_built, is_query, is_told, settle, settles};
+ghost use Rattle.tree_model.specs.Calls.{apply, after_kept, effect, is_query, is_told, settle, settles};
 ghost use Rattle.tree_model.specs.Making.{IsPlan};
 
 use crate::new_node::NewNode;
@@ -11,9 +11,9 @@ use crate::tree::Tree;
 use fs_base::{Call, Memory, Reply, Request};
 use std::alloc::Global;
 
-/// Whether servers take this call. The other calls aren't built yet.
-pub fn is_built(call: &Call) -> bool
-    ensures { result ≡ is_built call.now }
+/// Whether the tree knows what this call does.
+pub fn is_told(call: &Call) -> bool
+    ensures { result ≡ is_told call.now }
 {
     matches!(
         call,
@@ -28,17 +28,8 @@ pub fn is_built(call: &Call) -> bool
             | Call::Link { .. }
             | Call::Unlink(_)
             | Call::Rmdir(_)
+            | Call::Rename { .. }
     )
-}
-
-/// Whether the tree knows what this call does.
-pub fn is_told(call: &Call) -> bool
-    ensures { result ≡ is_told call.now }
-{
-    match call {
-        Call::Rename { .. } => true,
-        _ => is_built(call),
-    }
 }
 
 /// Whether a call changes nothing, whatever the tree. The replies to such calls aren't kept.

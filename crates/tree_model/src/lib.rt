@@ -19,7 +19,7 @@ mod tree;
 mod walk;
 mod walking;
 
-pub use apply::{is_built, is_query, is_told, settles};
+pub use apply::{is_query, is_told, settles};
 pub use kept::{Doom, KeptReply};
 pub use make::is_layout;
 pub use maps::{ByClient, ByName, ByNumber, BySession};

@@ -1,0 +1,15 @@
+ghost use Rattle.std.specs.Prelude.{◌≡◌};
+ghost use Rattle.path_walk.specs.Requests.{is_built};
+
+use fs_base::Call;
+use tree_model::is_told;
+
+/// Whether servers take this call. The other calls aren't built yet.
+pub fn is_built(call: &Call) -> bool
+    ensures { result ≡ is_built call.now }
+{
+    match call {
+        Call::Rename { .. } => false,
+        _ => is_told(call),
+    }
+}
