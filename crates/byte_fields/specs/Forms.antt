@@ -3,13 +3,15 @@ use Rattle.std.specs.Prelude.{ℕ, zero, suc, ◌-◌, ◌==◌, ◌&&◌, nat_l
 use Rattle.std.specs.List.{list_all}
 use Rattle.fs_base.specs.Gives.{◌>>=◌}
 
--- reads gives the value and the bytes behind it, or how many bytes are left where the first field
--- that doesn't read begins. fits says which values may be spelled.
+-- A field's rule is said once, as its form; reading, writing and the laws come from it. reads gives the value
+-- and the bytes behind it, or how many bytes are left where the first field that doesn't read begins, so that
+-- no form has to know where it stands. fits says which values may be spelled.
 pub record Form (X : Type 0) : Type 0 where
   pub reads : List ℕ → Result (X × List ℕ) ℕ
   pub spelled : X → List ℕ
   pub fits : X → Bool
 
+-- numbers below 256; a list with another one reads nowhere, so the laws hold of all lists
 abbrev pub are_bytes : List ℕ → Bool
 are_bytes = list_all (λ b. nat_lt b 256)
 
@@ -124,7 +126,8 @@ pub record Tagged : Type 0 where
 abbrev pub tagged : {X : Type 0} → ℕ → Form X → X → Tagged
 tagged tag form x = record { tag = tag; spelled = form.spelled x; fits = form.fits x }
 
--- a tag, and what stands behind it: written says it of each value, arms of each tag
+-- A tag, and what stands behind it: written says it of each value, arms of each tag. So a table stands twice:
+-- by value alone it would have to be searched, and by tag alone it says nothing of a value.
 abbrev pub choice : {X : Type 0} → Form ℕ → (X → Tagged) → List (Arm X) → Form X
 choice tag written arms = record {
   reads = λ bytes. tag.reads bytes >>= λ (t, rest). reads_arm arms t (length bytes) rest;

@@ -31,7 +31,8 @@ is_up_to_last [] key = false
 is_up_to_last (row ∷ []) key = is_le (key_cmp key row.key)
 is_up_to_last (row ∷ next ∷ rows) key = is_up_to_last (next ∷ rows) key
 
--- A range with as many rows as its limit holds the keys from lo to its last row, any other those up to hi.
+-- A range with as many rows as its limit holds the keys from lo to its last row, any other those up to hi. So
+-- with a limit of 0 it holds none.
 abbrev pub range_holds : RangeRead → List ℕ → Bool
 range_holds read key =
     is_ge (key_cmp key read.lo) && is_lt (key_cmp key read.hi)

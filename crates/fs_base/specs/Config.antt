@@ -3,6 +3,7 @@ use Rattle.std.specs.Prelude.{ℕ, ◌≤◌, ◌%◌, nat_le, ◌&&◌, Bool, i
 use Rattle.fs_base.specs.declared.layout.DefaultLayout.{DefaultLayout}
 use Rattle.fs_base.specs.declared.layout.Layout.{Layout}
 
+-- servers, storage nodes, replica chains; the root's default layout: a chunk in bytes, a stripe in chains
 pub record Settings : Type 0 where
   pub servers : ℕ
   pub nodes : ℕ

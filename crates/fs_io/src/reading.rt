@@ -19,8 +19,10 @@ pub enum ReadAllError {
     Memory,
 }
 
-/// Reads to the end of input, up to a limit in bytes. It returns also where the input never ends,
-/// since each read brings it nearer to the limit. What came before an error is dropped.
+/// Reads to the end of input, up to a limit in bytes. It returns also where the input never ends, since each
+/// read brings it nearer to the limit. What came before an error is dropped.
+///
+/// The limit is tested before what came is kept, so that want of memory can't hide too long an input.
 pub fn read_all<S: Source>(
     alloc: Global,
     source: &mut S,

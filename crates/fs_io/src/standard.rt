@@ -61,8 +61,8 @@ fn read_answer(answer: io::Result<usize>) -> Result<usize, SourceFailed>
     }
 }
 
-/// A writer of std as a sink. Each `Err` of the writer is a fault, and so is a write that takes
-/// none of the bytes that it is given.
+/// A writer of std as a sink. Each `Err` of the writer is a fault, and so is a write that takes none of the
+/// bytes that it is given: else writing all of them might never end.
 #[derive(Drop)]
 pub struct StdSink<W> {
     inner: W,

@@ -17,7 +17,8 @@ module _ {S I F : Type 0} {held : Ghosts S I F} where
   abbrev pub view_of : Pass S I F held → View I F
   view_of pass = pass.seat.me.0
 
-  -- it is a pass of this board, and names the frame of the board's objects and their kinds, in order
+  -- It is a pass of this board, and names the frame of the board's objects and their kinds, in order. No step
+  -- can tell the latter, so each call asks it and keeps it.
   abbrev pub IsPassOf : Board S I F → Pass S I F held → Type 0
   IsPassOf board pass =
       (pass.seat.table_id ≡ board.table.shared.table_id)

@@ -6,7 +6,7 @@ pub trait Held {
     /// An entry of the history.
     type Item;
 
-    /// What all objects of one board have in common. No value of it is made.
+    /// What all objects of one board have in common, where contracts speak of it. No value of it is made.
     type Frame;
 
     ghost history: { Self → List Self.Item };

@@ -11,7 +11,8 @@ use std::sync::Wait;
 
 /// The beginning of each object's history that was seen, and errands, which are numbers below 65,536.
 ///
-/// It may be sent to another thread. A pass that is dropped keeps its errands from all others.
+/// It may be sent to another thread. A pass that is dropped keeps its errands from all others. It has the
+/// lengths that it saw beside its seat, since `seen` has no board to ask.
 #[derive(Drop)]
 pub struct Pass<S: Held> {
     pub(crate) seat: SeatOf<S>,
@@ -36,7 +37,7 @@ impl<S: Held> Pass<S> {
         self.lengths[object as usize]
     }
 
-    /// Waits for the object's turn, lends it once to the work, and passes the turn on.
+    /// Waits for the object's turn, lends it once to the work, and passes the turn on. It may wait for ever.
     ///
     /// The work may add one entry to the end of the history, if this pass holds the entry's errands and if it
     /// fits whatever the other histories are, as far as this pass can know. Else it leaves the history as it is.

@@ -26,14 +26,14 @@ impl<S: Held> Play<S, View<S::Item, S::Frame>> for Draw {
     ghost then = { drawn };
 }
 
-/// A look whether the ticket is served: a load of serving.
+/// A look whether the ticket is served: a load of serving. Where it is, the whole history is seen with it.
 pub struct Look;
 
 impl<S: Held> Play<S, View<S::Item, S::Frame>> for Look {
     ghost then = { looked S.errands };
 }
 
-/// The length is read, and the object taken: a load of length.
+/// The length is read, and the object taken, which is no step of its own: a load of length.
 pub struct Take;
 
 impl<S: Held> Play<S, View<S::Item, S::Frame>> for Take {
@@ -81,7 +81,8 @@ impl<I, F> Join<View<I, F>> for Meet {
     ghost spent = { spent };
 }
 
-/// After a join: a load that tells how the passes joined stood to each other.
+/// After a join, which itself tells its pass nothing: a load that tells how the passes joined stood to each
+/// other.
 pub struct Recall;
 
 impl<S: Held> Play<S, View<S::Item, S::Frame>> for Recall {

@@ -32,6 +32,7 @@ AreReplies C T (entry ∷ entries) = ((applied C T entry).1 ≡ entry.reply) × 
 abbrev pub IsOnce : List Entry → Type 0
 IsOnce journal = (i j : ℕ) (a b : Entry) → EntryAt journal i a → EntryAt journal j b → a.request.client ≡ b.request.client → a.request.number ≡ b.request.number → i ≡ j
 
+-- the journal is a history of the plain tree
 pub record IsLegal (C : Settings) (journal : List Entry) : Type 0 where
   pub replies : AreReplies C (new_tree C) journal
   pub once : IsOnce journal

@@ -48,7 +48,8 @@ with_part h part = record {
   part = part;
 }
 
--- kinds: 1 a directory, 2 a file, 3 a link
+-- kinds: 1 a directory, 2 a file, 3 a link; that the arms, by tag, are the same table is proved
+-- (`inodes_are_spelled`)
 abbrev pub written_part : Head → InodePart → Tagged
 written_part h (parts.Dir parent chunk stripe) = tagged 1 (paired head dir_part) (h, (parent, (chunk, stripe)))
 written_part h (parts.File length truncs layout hint) = tagged 2 (paired head file_part) (h, (length, (truncs, (layout, hint))))

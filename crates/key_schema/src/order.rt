@@ -84,7 +84,7 @@ impl PartialOrd for Key {
     }
 }
 
-/// Keys are ordered as their bytes.
+/// Keys are ordered as their bytes. That is worked out from their parts, without writing them.
 impl Ord for Key {
     ghost cmp = { key_order };
 

@@ -29,6 +29,7 @@ later_from writes_of reads version [] = None
 later_from writes_of reads version (entry ∷ entries) =
     this_or (first_held reads (writes_of entry).writes) (version + 1) (later_from writes_of reads (version + 1) entries)
 
+-- of the entries behind a snapshot
 abbrev pub first_later : {E : Type 0} → (E → WriteSet) → List E → ℕ → ReadSet → Option (ℕ × List ℕ)
 first_later writes_of journal snapshot reads = later_from writes_of reads snapshot (drop snapshot journal)
 

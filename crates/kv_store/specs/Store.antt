@@ -14,7 +14,8 @@ pub record Store (E : Type 0) : Type 0 where
   pub opening : List Row
   pub journal : List E
 
--- the opening rows are good, and every entry is sound and agreed with the rows before it
+-- The opening rows are good, and every entry is sound and agreed with the rows before it. That the rows are
+-- good at every version isn't kept: it follows from this, which grows by one step.
 pub record IsKept {E : Type 0} (reads_of : E → ReadSet) (writes_of : E → WriteSet) (good : Settings → List Row → Type 0) (sound : Settings → E → Type 0) (store : Store E) : Type 0 where
   pub ascending : IsAscending store.opening
   pub opening_good : good store.config store.opening

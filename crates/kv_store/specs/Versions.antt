@@ -26,6 +26,7 @@ chain_from writes_of key version [] = []
 chain_from writes_of key version (entry ∷ entries) =
     written_version (written_value (writes_of entry).writes key) (version + 1) ++ chain_from writes_of key (version + 1) entries
 
+-- all versions of a key, oldest first: that of the opening rows, and those of the entries that wrote it
 abbrev pub chain_of : {E : Type 0} → (E → WriteSet) → List Row → List E → List ℕ → List Version
 chain_of writes_of opening journal key = opening_version (value_at_key opening key) ++ chain_from writes_of key 0 journal
 

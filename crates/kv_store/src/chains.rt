@@ -17,6 +17,9 @@ use std::alloc::Global;
 use std::collections::BTreeMap;
 
 /// The versions of each key, by the order of keys.
+///
+/// A key whose value was taken away has a chain too, since older versions are still read. Ranges pass it
+/// over.
 pub type Chains = BTreeMap<Text, VersionChain>;
 
 /// The last version of a key that is at most this one.
@@ -126,7 +129,8 @@ fn push_all(alloc: Global, chains: &mut Chains, front: u64, writes: &[Write]) ->
     Ok(())
 }
 
-/// Takes out what comes after the front at these keys.
+/// Takes out what comes after the front at these keys. It takes no memory, so a commit that runs out of
+/// memory among its keys needs no copy of the chains.
 fn take_back(chains: &mut Chains, front: u64, writes: &[Write])
     ensures { (key : List ℕ) → chain_at chains.new.entries key ≡ cut_written (written_value writes.now key) front (chain_at chains.old.entries key) }
 {

@@ -45,7 +45,8 @@ fn held_key<'a>(reads: &ReadSet, writes: &'a WriteSet) -> Option<&'a Text>
 
 /// The first version after this one that wrote something read, where it comes before `until`, and else `until`.
 ///
-/// It looks at the chains of the keys and ranges read, and at no other.
+/// It looks at the chains of the keys and ranges read, and at no other. A chain too many would do no harm,
+/// since the key is found among the writes of the entry of that version; one too few would.
 pub fn first_after(chains: &Chains, reads: &ReadSet, version: u64, until: u64) -> u64
     requires { version < until }
     ensures outside { (key : List ℕ) → reads_hold reads.now key ≡ true → AreOutside version result (chain_at chains.now.entries key) }

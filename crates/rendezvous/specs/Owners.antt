@@ -15,6 +15,7 @@ abbrev pub owner_from : ℕ → ℕ → List ℕ → ℕ
 owner_from inode best [] = best
 owner_from inode best (server ∷ servers) = owner_from inode (higher inode best server) servers
 
+-- the server of the greatest score, the first of equal ones; 0 where there are no servers
 abbrev pub owner_of : ℕ → List ℕ → ℕ
 owner_of inode [] = 0
 owner_of inode (server ∷ servers) = owner_from inode server servers

@@ -41,6 +41,7 @@ clients = listed number_8 client ascends
 unfoldable pub span : Form (ℕ × ℕ)
 span = paired file_size (within number_8 1 16777216)
 
+-- by call; that the arms, by tag, are the same table is proved (`calls_are_spelled`)
 abbrev pub written_call : Call → Tagged
 written_call (calls.Lookup p) = tagged 1 place p
 written_call (calls.Stat p) = tagged 2 place p

@@ -120,6 +120,7 @@ written_code codes.StoreFull = tagged 86 nothing tt
 written_code (codes.NodeFull node written) = tagged 87 (paired number_1 number_8) (node, written)
 written_code (codes.Removed version written) = tagged 88 (paired number_8 number_8) (version, written)
 
+-- by reply; that the arms, by tag, are the same table is proved (`replies_are_spelled`)
 abbrev pub written_reply : Reply → Tagged
 written_reply (replies.Made id) = tagged 1 inode_id id
 written_reply replies.Done = tagged 2 nothing tt

@@ -15,6 +15,7 @@ use Rattle.tree_model.specs.Creating.{first_hint}
 use Rattle.tree_model.specs.Tree.{next_at}
 use Rattle.row_tree.specs.TypedRows.{TypedRows, kind_of}
 
+-- what the row of a new node has by its kind, by a layout: a directory's default, or a file's
 abbrev pub row_part : Settings → NewPart → ℕ → ℕ → DefaultLayout → InodePart
 row_part C new.Dir id dir layout = parts.Dir dir layout.chunk layout.stripe
 row_part C new.File id dir layout = parts.File 0 0 (layout_at C id layout) (first_hint layout.stripe)

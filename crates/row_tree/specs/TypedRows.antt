@@ -17,6 +17,8 @@ use Rattle.row_records.specs.declared.rows.KeptRow.{KeptRow}
 use Rattle.tree_model.specs.Maps.{set, count_where, dent_cmp, session_cmp}
 use Rattle.row_tree.specs.Values.{Value, InodeValue, DentValue, SessionValue, KeptValue, GcValue, AllocValue, as_inode, as_dent, as_session, as_kept, as_gc, as_alloc}
 
+-- In the order of numbers, while keys have ids least significant byte first: one directory's entries and one
+-- inode's sessions have the same order in both, and files in deletion are ordered by number here.
 pub record TypedRows : Type 0 where
   -- by id
   pub inodes : FinMap nat_cmp InodeRow

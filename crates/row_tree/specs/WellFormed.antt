@@ -42,7 +42,7 @@ pub record IsLinked (S : TypedRows) (id : ℕ) (row : InodeRow) : Type 0 where
   pub link : kind_of row.part ≡ kinds.Link → 1 ≤ row.links
   pub file : kind_of row.part ≡ kinds.File → row.links ≡ 0 → get S.doomed id ≡ Some Waiting
 
--- the root is a directory that names itself as its parent, with link count 1
+-- the root is a directory that names itself as its parent, with link count 1, though no entry leads to it
 pub record IsRootRow (row : InodeRow) : Type 0 where
   pub parent : (chunk : ℕ) × (stripe : ℕ) × (row.part ≡ parts.Dir 0 chunk stripe)
   pub links : row.links ≡ 1
@@ -58,11 +58,12 @@ FitsConfig C id (parts.Dir parent chunk stripe) = IsTrue (admits C (record { chu
 FitsConfig C id (parts.File length truncs layout hint) = IsLayout C id layout × (1 ≤ hint) × (hint ≤ layout.stripe)
 FitsConfig C id (parts.Link target) = Unit {0}
 
--- waiting: a file that no entry leads to; purged: no inode, and a layout of the id
+-- waiting: a file that no entry leads to; purged: no inode, and a layout of the id, by which chunks are found
 abbrev pub IsDoomed : Settings → TypedRows → ℕ → GcRow → Type 0
 IsDoomed C S id Waiting = (row : InodeRow) × (get S.inodes id ≡ Some row) × (kind_of row.part ≡ kinds.File) × (row.links ≡ 0)
 IsDoomed C S id (Purged layout hint) = (get S.inodes id ≡ None) × IsLayout C id layout × (1 ≤ hint) × (hint ≤ layout.stripe)
 
+-- What makes typed rows those of a tree, together with `Spells` of their bytes.
 pub record IsWellFormed (C : Settings) (S : TypedRows) : Type 0 where
   pub root : (row : InodeRow) × (get S.inodes 0 ≡ Some row) × IsRootRow row
   pub linked : (id : ℕ) (row : InodeRow) → get S.inodes id ≡ Some row → id ≢ 0 → IsLinked S id row

@@ -15,7 +15,7 @@ kind_of_part (Dir layout) = kinds.Dir
 kind_of_part (File length truncs layout hint) = kinds.File
 kind_of_part (Link target) = kinds.Link
 
--- as many as 32 bits hold
+-- as many as 32 bits hold; rows count at most 65,535, so in a tree of well-formed rows the count is exact
 abbrev pub saturated : ℕ → ℕ
 saturated n = if nat_lt n 4294967296 then n else 4294967295
 

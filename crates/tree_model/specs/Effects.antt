@@ -6,7 +6,8 @@ use Rattle.fs_base.specs.declared.reply.Reply.{Reply}
 use Rattle.fs_base.specs.declared.reply.Reply.TheVariants.{Refused, Settled}
 use Rattle.tree_model.specs.Tree.{Tree}
 
--- a call leaves the tree and replies, or makes a new tree with its reply; a settling makes one of each length
+-- A call leaves the tree and replies, or makes a new tree with its reply; a settling makes one of each
+-- length. So a reply that leaves the tree is right whatever length is settled.
 pub data Effect : Type 0 where
   Leaves : (reply : Reply) → Effect
   Makes : (tree : Tree) → (reply : Reply) → Effect

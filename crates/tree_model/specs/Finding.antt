@@ -59,7 +59,8 @@ stat T place = at_end T place Follow (stat_at T)
 
 -- ---- list
 
--- an entry of a directory, with the kind of the node that it leads to
+-- an entry of a directory, with the kind of the node that it leads to; one without a node, which no tree of
+-- well-formed rows has, is left out
 abbrev pub entry_in : Tree → ℕ → (ℕ × List ℕ) × ℕ → Option DirEntry
 entry_in T dir e = cond (e.0.0 == dir) (option_map (λ (node : Node). record { name = e.0.1; inode = e.1; kind = kind_of_part node.part }) (get T.nodes e.1)) None
 

@@ -31,7 +31,7 @@ all_pass p m = list_all (λ e. p e.0 e.1) (entries m)
 abbrev pub dent_cmp : ℕ × List ℕ → ℕ × List ℕ → Ordering
 dent_cmp a b = ordering_then (nat_cmp a.0 b.0) (slice_cmp nat_cmp a.1 b.1)
 
--- a session's inode, client and number, in this order
+-- a session's inode, client and number, in this order: that of pairs in a pair
 abbrev pub session_cmp : ℕ × (ℕ × ℕ) → ℕ × (ℕ × ℕ) → Ordering
 session_cmp a b = ordering_then (nat_cmp a.0 b.0) (ordering_then (nat_cmp a.1.0 b.1.0) (nat_cmp a.1.1 b.1.1))
 

@@ -12,6 +12,8 @@ use Rattle.tree_model.specs.declared.node.NodePart.TheVariants.{Dir}
 use Rattle.tree_model.specs.declared.tree.TreeParts.{TreeParts}
 use Rattle.tree_model.specs.Maps.{dent_cmp, session_cmp}
 
+-- It has sessions and files in deletion before any call makes one: stored rows are compared with a tree, and
+-- that comparison is made once.
 pub record Tree : Type 0 where
   -- by id
   pub nodes : FinMap nat_cmp Node
@@ -43,6 +45,7 @@ next_at next server = unwrap_or (get next server) 1
 abbrev pub node_with : ℕ → ℕ → NodePart → Node
 node_with mode stamp part = record { mode = mode; owner = 0; group = 0; atime = stamp; mtime = stamp; ctime = stamp; part = part }
 
+-- mode 755, and the configuration's default layout
 abbrev pub root_of : Config → Node
 root_of C = node_with 493 0 (Dir (record { chunk = C.chunk; stripe = C.stripe }))
 

@@ -21,7 +21,8 @@ pub data Visit : Type 0 where
   Inode : (id : ℕ) → Visit
   Entry : (dir : ℕ) → (name : List ℕ) → Visit
 
--- where a walk ends, and what it looks at on the way, in order
+-- Where a walk ends, and what it looks at on the way, in order: by one recursion, so that what a walk over
+-- the store may read is read off it.
 pub record Trip : Type 0 where
   pub end : Walked
   pub visits : List Visit
@@ -56,7 +57,9 @@ is_last_unfollowed _ _ = false
 abbrev pub Behind : Type 0
 Behind = ℕ → ℕ → List ℕ → List (List ℕ) → Trip
 
--- the target's names come before those that are left; the walk goes on from the root or from the link's directory
+-- The target's names come before those that are left; the walk goes on from the root or from the link's
+-- directory. No call makes a link to what is no path; that such a one ends the walk gives every tree an
+-- answer.
 abbrev pub on_target : (List (List ℕ) → ℕ → Trip) → ℕ → List (List ℕ) → Result Path Code → Trip
 on_target go here names (Err code) = stay (Stopped code)
 on_target go here names (Ok path) = go (path.names ++ names) (if path.absolute then 0 else here)
@@ -79,7 +82,8 @@ abbrev pub at_entry : Behind → Tree → WalkEnd → ℕ → List (List ℕ) �
 at_entry follow T end here names below None = stay (Stopped NotFound)
 at_entry follow T end here names below (Some id) = at_node follow end here id names (below id) (get T.nodes id)
 
--- the names from directory here on; follow goes on behind a link
+-- The names from directory here on; follow goes on behind a link. An entry's node tells whether the walk goes
+-- on, so of inodes only a base and the links are looked at.
 abbrev pub down : Behind → Tree → WalkEnd → List (List ℕ) → ℕ → Trip
 down follow T end [] here = stay (ends_at end here)
 down follow T end (name ∷ names) here =

@@ -78,7 +78,8 @@ impl NewPart {
     }
 }
 
-/// How a file of this id lies, whether or not the configuration admits the chunk and stripe.
+/// How a file of this id lies, whether or not the configuration admits the chunk and stripe: what was read
+/// may show a directory's default that none admits, and no well-formed rows agree with that.
 pub fn layout_at(config: &Config, id: InodeId, given: DefaultLayout) -> Layout
     ensures { result ≡ layout_at config.now id given }
 {

@@ -63,7 +63,7 @@ pub enum Ask {
     Done,
 }
 
-/// What a task is answered. Each answer fits the last ask.
+/// What a task is answered. Each answer fits the last ask. No call that is built asks a storage node.
 #[derive(Debug, Drop)]
 pub enum Answer {
     /// To no ask: the task's first step.

@@ -30,7 +30,7 @@ impl Outcome {
     }
 }
 
-/// What a client keeps of a call.
+/// What a client keeps of a call, and a record lists.
 #[derive(Debug, Drop)]
 pub struct Receipt {
     /// The place of the operation among the client's, from 0.

@@ -97,7 +97,8 @@ fn page_from(lo: Text, hi: Text) -> Ask
 
 /// The next page of a range that is still to be asked for; `None` where all of them were read.
 ///
-/// Which of the ranges read are its pages is told by their bounds and limit alone; others may stand between them.
+/// Which of the ranges read are its pages is told by their bounds and limit alone; others may stand between
+/// them. They are looked through each time, the first pages often; so nothing that was read is kept twice.
 pub fn want_pages(alloc: Global, txn: &Txn, lo: &[u8], hi: &[u8]) -> Result<Option<Ask>, Memory>
     ensures { IfOk result (λ want. IsWantPages want txn.now.reads lo.now hi.now) }
 {

@@ -15,6 +15,8 @@ use std::marker::Model;
 use std::mem;
 
 /// What an attempt has read since it began, all at one version, and what it would write.
+///
+/// It keeps bytes alone, as they came; what they tell of typed rows is read off them by `want_..`.
 #[derive(Drop)]
 pub struct Txn {
     snapshot: u64,
@@ -239,8 +241,9 @@ impl Txn {
         }
     }
 
-    /// Sets the write of a key: a value, or `None` where the key is to lose its own. It takes the place of an earlier
-    /// write of the key.
+    /// Sets the write of a key: a value, or `None` where the key is to lose its own. It takes the place of an
+    /// earlier write of the key. Every key is taken, also one that no store has: a server of 16, a session
+    /// number 0.
     ///
     /// Without memory for it the transaction stays as it was.
     #[tactic(auto, using(crate::proofs::WriteLaws::ascending_put, crate::proofs::TxnLaws::are_writes_put))]
