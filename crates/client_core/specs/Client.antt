@@ -58,6 +58,7 @@ end_call c server outcome None = (c, asks.Ended)
 end_call c server outcome (Some request) =
     (record c { op = c.op + 1; gone = []; request = None }, asks.CallEnd (receipt_of c.op request server c.gone outcome ∷ []) true)
 
+-- the client behind its next ask, and the ask
 abbrev pub client_step : ClientView → ClientAnswer → ClientView × ClientAsk
 client_step c (answers.Replied server outcome) = end_call c server outcome c.request
 client_step c answer = send c (slice_get c.script.ops c.op)

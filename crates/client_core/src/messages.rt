@@ -22,7 +22,7 @@ pub enum ClientAsk {
 /// What a client is answered. Each answer fits the last ask.
 #[derive(Debug, Drop)]
 pub enum ClientAnswer {
-    /// To no ask: the first step.
+    /// To no ask: the first step. It says the same as `Next`: on with the script.
     Start,
     /// To `Send`: the server that did the request, and what it came to.
     Replied(u8, Outcome),

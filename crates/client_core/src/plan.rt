@@ -72,7 +72,8 @@ pub enum Op {
 /// What a client does, in order.
 #[derive(Debug, Drop)]
 pub struct Script {
-    /// No two clients of a plan have the same, and none has the nil one.
+    /// No two clients of a plan have the same, as they would share their kept reply; and none has the nil
+    /// one.
     pub id: ClientId,
     /// The server that it sends to.
     pub home: u8,
@@ -82,7 +83,8 @@ pub struct Script {
 /// The order of turns.
 #[derive(Debug, Drop)]
 pub enum Schedule {
-    /// `k` is one turn of client k, and `100 + k` is one whole operation of client k.
+    /// `k` is one turn of client k, and `100 + k` is one whole operation of client k. There are at most 64
+    /// clients, so no item can be meant for both.
     Items(Items<u16>),
 }
 

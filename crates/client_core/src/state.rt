@@ -65,7 +65,7 @@ impl ClientState {
 
     /// The next ask. The answer fits the last one; the first is `Start`.
     ///
-    /// A client that had no memory for it answers want of memory from then on.
+    /// A client that had no memory for it answers want of memory from then on: what it was answered is lost.
     pub fn next(&mut self, answer: ClientAnswer) -> Result<ClientAsk, Memory>
         requires { Fits self.old.request answer }
         ensures alive { OnOk result (self.old.failed ≡ false) }

@@ -26,7 +26,8 @@ use Rattle.event_laws.specs.Moments.{HasAsked, HasTold, IsAmong, IsLengthAt, IsM
 abbrev pub RunsAreEvents : Type 0
 RunsAreEvents = (old new : WorldView) → IsOrdered old new → (events : List Event) × AreEvents old events new
 
--- a list of events since nothing had happened, of which this is the newest
+-- A list of events since nothing had happened, of which this is the newest. Without the newest ones it is
+-- such a list too, so what holds of the newest event holds of each.
 pub record EndsWith (plan : Plan) (event : Event) (earlier : List Event) : Type 0 where
   pub first : WorldView
   pub opening : IsOpening plan first

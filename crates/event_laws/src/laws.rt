@@ -25,7 +25,8 @@ pub fn fronts_begin_calls()
     ensures { FrontsBeginCalls }
 {}
 
-/// A reply to a call that began after another had ended has at least that one's version. It does nothing.
+/// A reply isn't older than what any client had learned before its call began, conflicts too. It does
+/// nothing.
 pub fn replies_rise()
     ensures { RepliesRise }
 {}

@@ -104,7 +104,8 @@ pub record IsKeptReply (task : TaskView) (got : Got) (outcome : Outcome) : Type 
   pub version : outcome.version ≡ got.version
   pub mark : outcome.committed ≡ true
 
--- what shows that an uncommitted reply isn't that of an entry: a query, a new number, or a number that is refused as stale
+-- what shows that an uncommitted reply isn't that of an entry: a query, a new number, or a number that is
+-- refused as stale; else a kept reply could be told as one that was only seen
 abbrev pub IsStale : Reply → Type 0
 IsStale reply = (kept : ℕ) × (reply ≡ Refused (codes.Stale kept))
 

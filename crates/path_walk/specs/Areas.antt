@@ -41,6 +41,7 @@ trip_areas trip at = walked_areas trip ++ at trip.end
 
 -- ---- what was read
 
+-- the area was read whole
 abbrev pub IsRead : ReadSet → Area → Type 0
 IsRead reads (OneKey key) = IsKeyRead reads key
 IsRead reads (FirstRow lo hi) = IsFirstRead reads lo hi

@@ -25,6 +25,7 @@ use Rattle.txn_task.specs.declared.messages.Entry.{Entry}
 abbrev pub IsJustifiedReply : Settings → Request → ReadSet → Reply → Type 0
 IsJustifiedReply C q reads reply = (rows : List Row) (T : Tree) → IsAscending rows → HasTree C rows T → bytes.Agrees rows reads → (settled : ℕ) → apply C T q settled ≡ (T, reply)
 
+-- what is kept of a reply: it, and the number of its request
 abbrev pub kept_value : Request → Reply → Value
 kept_value q reply = KeptValue (record { number = q.number; reply = reply })
 

@@ -68,6 +68,7 @@ abbrev pub IsTripAsk : (Tree → Trip) → ReadSet → Ask → Type 0
 IsTripAsk trip reads (asks.Get key) = IsUnread reads key × LooksAt trip reads key
 IsTripAsk trip reads ask = ⊥
 
+-- the answer of a walk: the ask for what it looks at next, or where it ends
 abbrev pub IsWalkStep : WalkStep → Walk → ReadSet → Type 0
 IsWalkStep (steps.Ask ask) w reads = IsTripAsk (trip_of w) reads ask
 IsWalkStep (steps.At id kind) w reads = HasEnd (trip_of w) reads (walked.At id kind)
@@ -81,6 +82,7 @@ IsWalkStep (steps.Refused code) w reads = HasEnd (trip_of w) reads (walked.Stopp
 abbrev pub IsStart : Walk → Place → WalkEnd → Type 0
 IsStart w place end = (path : Path) × (path_of place.text ≡ Ok path) × ((T : Tree) → trip_of w T ≡ travel T place.base path end)
 
+-- the refusal that an error stands for: want of memory stands for none
 abbrev pub walk_refusal : WalkError → Option Code
 walk_refusal errors.BadPath = Some BadPath
 walk_refusal errors.BadName = Some BadName

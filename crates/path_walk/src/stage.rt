@@ -30,7 +30,8 @@ pub enum Reached {
     End(Walked),
 }
 
-/// What was answered stands in the transaction already.
+/// What was answered stands in the transaction already, and steps look there alone: a key that was read
+/// before, by the walk or for the kept reply, needs no case of its own.
 pub fn forget(_answer: Answer) {}
 
 /// What a walk's step says.

@@ -15,5 +15,6 @@ reads_of entry = entry.reads
 abbrev pub writes_of : Entry → WriteSet
 writes_of entry = entry.writes
 
+-- the rows of a version: the opening rows with the first entries' writes
 abbrev pub journal_rows : Settings → List Entry → ℕ → List Row
 journal_rows C journal n = rows_at writes_of (opening_bytes C) journal n

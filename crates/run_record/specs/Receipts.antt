@@ -58,7 +58,8 @@ abbrev pub AreLater : List Entry → ClientId → ℕ → List (ℕ × Key) → 
 AreLater journal client floor [] = Unit {0}
 AreLater journal client floor (pair ∷ pairs) = NamesLater journal client floor pair × AreLater journal client pair.0 pairs
 
--- the request may read the key at a snapshot before the conflict
+-- the request may read the key at a snapshot before the conflict: at some, since a record doesn't keep where
+-- attempts began
 pub record MayMeet (C : Settings) (journal : List Entry) (request : Request) (floor : ℕ) (pair : ℕ × Key) : Type 0 where
   pub snapshot : ℕ
   pub from : floor ≤ snapshot
@@ -92,7 +93,8 @@ HasStopped (stop ∷ stops) server = (stop.0 ≡ server) ⊎ HasStopped stops se
 abbrev pub WasSentTo : Receipt → ℕ → Type 0
 WasSentTo receipt server = (receipt.server ≡ Some server) ⊎ HasStopped receipt.gone server
 
--- an entry that the receipt names was made by a server that the call was sent to
+-- an entry that the receipt names was made by a server that the call was sent to, which need not have
+-- answered: it may stop behind the commit, and the next one answers with the kept reply
 abbrev pub IsMadeBy : List Entry → Receipt → Type 0
 IsMadeBy journal receipt = receipt.committed ≡ true → (place : ℕ) (entry : Entry) → EntryAt journal place entry → receipt.version ≡ place + 1 → WasSentTo receipt entry.request.server
 
@@ -110,7 +112,8 @@ pub record IsServed (C : Settings) (journal : List Entry) (client : ClientId) (l
 abbrev pub StaysInside : Settings → List Entry → ClientId → Listed → Type 0
 StaysInside C journal client listed = (request : Request) → request.client ≡ client → IsOf request listed.receipt → MayMeetAll C journal request (front_of listed.fronts) listed.receipt.conflicts
 
--- a server's receipt, and what the plan and the footprint say of it
+-- a server's receipt, and what the plan and the footprint say of it; the first is all that a record shows
+-- without its plan
 pub record IsAnswered (C : Settings) (attempts : ℕ) (journal : List Entry) (client : ClientId) (listed : Listed) : Type 0 where
   pub served : IsServed C journal client listed
   pub met : AreAttempts attempts listed.receipt.reply (length listed.receipt.conflicts)

@@ -76,7 +76,8 @@ abbrev pub stops_told : List Listed → List (ℕ × ℕ)
 stops_told [] = []
 stops_told (listed ∷ rest) = listed.receipt.gone ++ stops_told rest
 
--- the counts of the end line
+-- the counts of the end line, told by the receipts and not by how runs go: an operation may come to have
+-- several receipts, and one stop may be told to several clients
 abbrev pub counts_of : List ClientId → List Listed → List Entry → ℕ → Summary
 counts_of clients receipts entries waiting =
     record {

@@ -5,10 +5,11 @@ use txn_task::{Entry, Receipt};
 #[derive(Debug, Drop)]
 pub struct Listed {
     pub client: u16,
-    /// The length of the journal, and then how much each storage node had done.
+    /// The length of the journal, and then how much each storage node had done. They are not written.
     pub fronts: Items<u64>,
     pub receipt: Receipt,
-    /// The call's name and the reply's words, as its line ends.
+    /// The call's name and the reply's words, as its line ends. It is written as it stands; a right record
+    /// ties it to the call and the reply.
     pub text: Text,
 }
 

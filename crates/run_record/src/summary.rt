@@ -51,7 +51,7 @@ fn is_among(pair: (u64, u64), pairs: &[(u64, u64)]) -> bool
         .any(|other| pair.0 == other.0 && pair.1 == other.1)
 }
 
-/// How many different pairs there are: each counts where it stands last.
+/// How many different pairs there are: each counts where it stands last. The work grows with their square.
 fn count_distinct(pairs: &[(u64, u64)]) -> u64
     ensures { result ≡ count_distinct pairs.now }
 {

@@ -25,7 +25,8 @@ use Rattle.client_core.specs.declared.plan.Script.{Script}
 abbrev pub short_enough : List ℕ → Result (List ℕ) Broken
 short_enough bytes = if nat_lt 16777216 (length bytes) then Err (rule 1 16777216) else Ok bytes
 
--- one JSON text, nested no deeper than 127
+-- one JSON text, nested no deeper than 127, by `serde_json`'s contract: a number too great for a float or a
+-- lone surrogate makes it none
 unfoldable pub json_of : List ℕ → Result Data Broken
 json_of bytes = if is_utf8 bytes then ok_or (read bytes) (rule 2 0) else Err (rule 2 0)
 
