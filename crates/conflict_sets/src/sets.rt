@@ -38,8 +38,8 @@ pub struct Write {
 
 /// All that a transaction writes, in the order of keys, each key once.
 ///
-/// That is part of the type, so that the key which a conflict names is the least one. Who makes a write set
-/// proves it.
+/// That is part of the type, so that the key which a conflict names is the least one. Whoever makes a write
+/// set proves it.
 #[derive(Debug, Drop)]
 pub struct WriteSet {
     pub writes: Items<Write>,

@@ -17,7 +17,7 @@ use std::sync::Wait;
 impl<S: Held + Drop> Board<S> {
     /// Takes its memory, then a turn on each object, passing none on, and gives the objects in order.
     ///
-    /// It waits for these turns, may be for ever, and nobody adds an entry to an object after its turn here.
+    /// It waits for these turns, perhaps for ever, and nobody adds an entry to an object after its turn here.
     /// Without memory the objects are dropped.
     pub fn close<W: Wait>(self, rt: &W, alloc: Global, last: Pass<S>) -> Result<Vec<S>, Memory>
         requires board { IsPassOf self last }
