@@ -7,6 +7,7 @@ use Rattle.fs_base.specs.declared.ids.ClientId.{ClientId}
 use Rattle.fs_base.specs.declared.layout.Layout.{Layout}
 use Rattle.fs_base.specs.declared.kind.Kind.{Kind}
 use Rattle.fs_base.specs.declared.kind.Kind.TheVariants as kinds
+use Rattle.fs_base.specs.declared.limits.TheConstants.{CHAINS, CHUNK_BYTES, INODE_IDS, MODES, TIMES}
 use Rattle.byte_fields.specs.Forms.{Form, front, nothing, followed, paired, seen, shaped, tested, one_field, sized, Arm, arm, Tagged, tagged, choice}
 
 -- numbers of 1, 2, 4 and 8 bytes, the lowest byte first
@@ -31,15 +32,15 @@ within form low high = tested form (from_to low high)
 
 -- an inode's number, below 2 ^ 36
 unfoldable pub inode_id : Form ℕ
-inode_id = within number_8 0 (2 ^ 36 - 1)
+inode_id = within number_8 0 (INODE_IDS - 1)
 
 -- the twelve permission bits
 unfoldable pub mode : Form ℕ
-mode = within number_2 0 4095
+mode = within number_2 0 (MODES - 1)
 
 -- a stamp or a time, below 2 ^ 53
 unfoldable pub time : Form ℕ
-time = within number_8 0 (2 ^ 53 - 1)
+time = within number_8 0 (TIMES - 1)
 
 -- a place in a file, or its length: at most the greatest one
 unfoldable pub file_size : Form ℕ
@@ -47,7 +48,7 @@ file_size = within number_8 0 (2 ^ 40)
 
 -- a chunk's size in bytes
 unfoldable pub chunk : Form ℕ
-chunk = within number_4 1 4194304
+chunk = within number_4 1 CHUNK_BYTES
 
 -- how many chains a file is striped over
 unfoldable pub stripe : Form ℕ
@@ -56,11 +57,13 @@ stripe = within number_2 1 256
 -- a layout by its four numbers
 abbrev pub layout_of : Form ℕ → Form ℕ → Form ℕ → Form ℕ → Form Layout
 layout_of chunks stripes starts mixes =
-    shaped (paired chunks (paired stripes (paired starts mixes))) (λ (c, (t, (s, m))). record { chunk = c; stripe = t; start = s; mix = m }) (λ l. (l.chunk, (l.stripe, (l.start, l.mix))))
+    shaped (paired chunks (paired stripes (paired starts mixes)))
+    (λ (c, (t, (s, m))). record { chunk = c; stripe = t; start = s; mix = m })
+    (λ l. (l.chunk, (l.stripe, (l.start, l.mix))))
 
 -- a file's layout: the first chain is below 256, the number for shuffling an inode's
 unfoldable pub layout : Form Layout
-layout = layout_of chunk stripe (within number_2 0 255) inode_id
+layout = layout_of chunk stripe (within number_2 0 (CHAINS - 1)) inode_id
 
 -- and how many places of it are in use: 1 to the stripe
 unfoldable pub used_layout : Form (Layout × ℕ)
@@ -98,7 +101,8 @@ written_kind kinds.File = tagged 2 nothing tt
 written_kind kinds.Link = tagged 3 nothing tt
 
 abbrev pub kind_arms : List (Arm Kind)
-kind_arms = arm 1 nothing (λ x. kinds.Dir) ∷ arm 2 nothing (λ x. kinds.File) ∷ arm 3 nothing (λ x. kinds.Link) ∷ []
+kind_arms =
+    arm 1 nothing (λ x. kinds.Dir) ∷ arm 2 nothing (λ x. kinds.File) ∷ arm 3 nothing (λ x. kinds.Link) ∷ []
 
 unfoldable pub kind : Form Kind
 kind = choice number_1 written_kind kind_arms
@@ -113,4 +117,6 @@ path_text = tested text (λ bytes. is_ok (path_of bytes))
 
 -- the 16 bytes of a UUID, the most significant first
 unfoldable pub client : Form ClientId
-client = seen (front 16) (λ c. nat_lt c.0 (2 ^ 128)) (λ bytes. record { 0 = from_be_bytes w128 bytes }) (λ c. to_be_bytes w128 c.0)
+client =
+    seen (front 16) (λ c. nat_lt c.0 (2 ^ 128)) (λ bytes. record { 0 = from_be_bytes w128 bytes })
+    (λ c. to_be_bytes w128 c.0)

@@ -18,7 +18,9 @@ are_bytes = list_all (λ b. nat_lt b 256)
 -- one field: so many bytes
 abbrev pub front : ℕ → Form (List ℕ)
 front count = record {
-  reads = λ bytes. if nat_le count (length bytes) && are_bytes (take count bytes) then Ok (take count bytes, drop count bytes) else Err (length bytes);
+  reads =
+      λ bytes. if nat_le count (length bytes) && are_bytes (take count bytes)
+      then Ok (take count bytes, drop count bytes) else Err (length bytes);
   spelled = λ bytes. bytes;
   fits = λ bytes. length bytes == count && are_bytes bytes;
 }
@@ -30,7 +32,8 @@ nothing = record { reads = λ bytes. Ok (tt, bytes); spelled = λ x. []; fits = 
 -- one after the other, where the first may say how the second reads
 abbrev pub followed : {X Y : Type 0} → Form X → (X → Form Y) → Form (X × Y)
 followed first second = record {
-  reads = λ bytes. first.reads bytes >>= λ (x, rest). (second x).reads rest >>= λ (y, left). Ok ((x, y), left);
+  reads =
+      λ bytes. first.reads bytes >>= λ (x, rest). (second x).reads rest >>= λ (y, left). Ok ((x, y), left);
   spelled = λ (x, y). first.spelled x ++ (second x).spelled y;
   fits = λ (x, y). first.fits x && (second x).fits y;
 }
@@ -68,7 +71,12 @@ or_left left (Err e) = Err left
 
 -- as one field: where it doesn't read, the place is where it begins
 abbrev pub one_field : {X : Type 0} → Form X → Form X
-one_field form = record { reads = λ bytes. or_left (length bytes) (form.reads bytes); spelled = form.spelled; fits = form.fits }
+one_field form =
+    record {
+      reads = λ bytes. or_left (length bytes) (form.reads bytes);
+      spelled = form.spelled;
+      fits = form.fits;
+    }
 
 -- bytes behind their number
 abbrev pub sized : Form ℕ → Form (List ℕ)
@@ -79,10 +87,12 @@ sized count = record {
 }
 
 -- a list, of which each item may stand behind the one before it
-abbrev pub reads_items : {X : Type 0} → Form X → (Option X → X → Bool) → Option X → ℕ → List ℕ → Result (List X × List ℕ) ℕ
+abbrev pub reads_items : {X : Type 0} → Form X → (Option X → X → Bool) → Option X → ℕ → List ℕ
+    → Result (List X × List ℕ) ℕ
 reads_items form follows before zero bytes = Ok ([], bytes)
 reads_items form follows before (suc n) bytes =
-    form.reads bytes >>= λ (x, rest). passed (follows before x) (length bytes) x rest >>= λ (y, left). reads_items form follows (Some y) n left >>= λ (ys, end). Ok (y ∷ ys, end)
+    form.reads bytes >>= λ (x, rest). passed (follows before x) (length bytes) x rest >>=
+    λ (y, left). reads_items form follows (Some y) n left >>= λ (ys, end). Ok (y ∷ ys, end)
 
 abbrev pub spelled_items : {X : Type 0} → Form X → List X → List ℕ
 spelled_items form [] = []
@@ -90,7 +100,8 @@ spelled_items form (x ∷ xs) = form.spelled x ++ spelled_items form xs
 
 abbrev pub items_fit : {X : Type 0} → Form X → (Option X → X → Bool) → Option X → List X → Bool
 items_fit form follows before [] = true
-items_fit form follows before (x ∷ xs) = (form.fits x && follows before x) && items_fit form follows (Some x) xs
+items_fit form follows before (x ∷ xs) =
+    (form.fits x && follows before x) && items_fit form follows (Some x) xs
 
 -- the number of items, and the items
 abbrev pub listed : {X : Type 0} → Form ℕ → Form X → (Option X → X → Bool) → Form (List X)

@@ -5,6 +5,7 @@ ghost use Rattle.byte_fields.specs.Fields.{version, number_1, number_2, number_4
 ghost use Rattle.byte_fields.specs.Outcome.{left_of, place_of, NeedsNoMemory};
 
 use crate::error::{FieldError, RowError};
+use fs_base::limits::{CHAINS, CHUNK_BYTES, INODE_IDS, MODES, TIMES};
 use fs_base::{ClientId, InodeId, Kind, Layout, Path, PathError, Text};
 use std::alloc::Global;
 use std::marker::Model;
@@ -167,7 +168,7 @@ impl<'a> Cursor<'a> {
         ensures gives { Gives left_of (λ n. (n, self.new)) result (inode_id.reads self.old) }
         ensures memory { NeedsNoMemory left_of result }
     {
-        let number = self.u64_within(0, (1 << 36) - 1)?;
+        let number = self.u64_within(0, INODE_IDS - 1)?;
         Ok(InodeId::new(number))
     }
 
@@ -177,7 +178,7 @@ impl<'a> Cursor<'a> {
         ensures gives { Gives left_of (λ n. (n, self.new)) result (mode.reads self.old) }
         ensures memory { NeedsNoMemory left_of result }
     {
-        self.u16_within(0, 4095)
+        self.u16_within(0, MODES - 1)
     }
 
     /// A stamp or a time, below 2^53.
@@ -186,7 +187,7 @@ impl<'a> Cursor<'a> {
         ensures gives { Gives left_of (λ n. (n, self.new)) result (time.reads self.old) }
         ensures memory { NeedsNoMemory left_of result }
     {
-        self.u64_within(0, (1 << 53) - 1)
+        self.u64_within(0, TIMES - 1)
     }
 
     /// A length or a place in a file, at most 1,099,511,627,776.
@@ -204,7 +205,7 @@ impl<'a> Cursor<'a> {
         ensures gives { Gives left_of (λ n. (n, self.new)) result (chunk.reads self.old) }
         ensures memory { NeedsNoMemory left_of result }
     {
-        self.u32_within(1, 4_194_304)
+        self.u32_within(1, CHUNK_BYTES)
     }
 
     /// A number of chains, 1 to 256.
@@ -224,7 +225,7 @@ impl<'a> Cursor<'a> {
     {
         let chunk = self.chunk()?;
         let stripe = self.stripe()?;
-        let start = self.u16_within(0, 255)?;
+        let start = self.u16_within(0, CHAINS - 1)?;
         let mix = self.inode_id()?.get();
         Ok(Layout {
             chunk,
@@ -316,7 +317,8 @@ impl<'a> Cursor<'a> {
 
     /// What was read, if no bytes are left; `size` is how many there were.
     pub fn finish<T: Drop>(&self, size: usize, read: Result<T, FieldError>) -> Result<T, RowError>
-        ensures gives { (r : Result (T × List ℕ) ℕ) → Gives left_of (λ v. (v, self.now)) read r → Gives place_of (λ v. v) result (placed size r) }
+        ensures gives { (r : Result (T × List ℕ) ℕ) → Gives left_of (λ v. (v, self.now)) read r
+            → Gives place_of (λ v. v) result (placed size r) }
         ensures memory { NeedsNoMemory left_of read → NeedsNoMemory place_of result }
     {
         match read {

@@ -3,19 +3,22 @@ use Rattle.std.specs.Prelude.{◌≡◌, ℕ, zero, suc, ◌+◌, ◌-◌, ◌*�
 use Rattle.std.specs.List.{range_with_len, swap}
 use Rattle.fs_base.specs.Config.{Settings, layout_given}
 use Rattle.fs_base.specs.declared.layout.Layout.{Layout}
+use Rattle.fs_base.specs.declared.limits.TheConstants.{CHAINS, INODE_IDS}
 
 -- the configuration gives some inode this layout
 abbrev pub IsLayoutOf : Settings → Layout → Type 0
-IsLayoutOf C layout = (id : ℕ) × (id < 68719476736) × (layout_given C id (record { chunk = layout.chunk; stripe = layout.stripe }) ≡ Some layout)
+IsLayoutOf C layout =
+    (id : ℕ) × (id < INODE_IDS)
+    × (layout_given C id (record { chunk = layout.chunk; stripe = layout.stripe }) ≡ Some layout)
 
 -- what such a layout keeps to
 pub record IsInBounds (C : Settings) (layout : Layout) : Type 0 where
   pub some : 1 ≤ C.chains
-  pub few : C.chains ≤ 256
+  pub few : C.chains ≤ CHAINS
   pub start : layout.start < C.chains
   pub striped : 1 ≤ layout.stripe
   pub stripe : layout.stripe ≤ C.chains
-  pub mix : layout.mix < 68719476736
+  pub mix : layout.mix < INODE_IDS
 
 -- as many chains as the stripe, from the start on
 abbrev pub in_turn : Settings → Layout → List ℕ
@@ -24,7 +27,8 @@ in_turn C layout = map (λ place. (layout.start + place) % C.chains) (range_with
 -- from the last place down to the second, each changes places with one at or before it
 abbrev pub shuffled : ℕ → ℕ → List ℕ → List ℕ
 shuffled mix zero chains = chains
-shuffled mix (suc place) chains = shuffled mix place (swap chains (suc place) ((mix + 7 * suc place) % (suc place + 1)))
+shuffled mix (suc place) chains =
+    shuffled mix place (swap chains (suc place) ((mix + 7 * suc place) % (suc place + 1)))
 
 -- the chain of each place
 unfoldable pub chains_of : Settings → Layout → List ℕ

@@ -2,6 +2,7 @@ ghost use Rattle.std.specs.Prelude.{◌≡◌, ◌≤◌, ◌<◌, ◌+◌, ◌*
 ghost use Rattle.chunk_layout.specs.Pieces.{ArePieces, IsPiece, IsTooLong};
 ghost use Rattle.chunk_layout.specs.declared.cutting.PieceError.TheVariants as errors;
 
+use fs_base::limits::{FILE_BYTES, PIECES};
 use fs_base::{Items, Layout, Memory};
 use std::alloc::Global;
 
@@ -43,17 +44,17 @@ pub fn pieces(
     requires some { 1 ≤ len }
     requires fits { offset + len < 2 ^ 64 }
     ensures cover { IfOk result (ArePieces layout.now.chunk (offset + len) offset (offset + len)) }
-    ensures short { IfOk result (λ pieces. (offset + len ≤ 1099511627776) × (length pieces ≤ 65536)) }
+    ensures short { IfOk result (λ pieces. (offset + len ≤ FILE_BYTES) × (length pieces ≤ PIECES)) }
     ensures long { result ≡ Err errors.TooLong → IsTooLong layout.now.chunk offset (offset + len) }
 {
     let end = offset + len;
-    if end > 1_099_511_627_776 {
+    if end > FILE_BYTES {
         return Err(PieceError::TooLong);
     }
     let mut pieces = Items::new(alloc);
     let mut at = offset;
     while at < end {
-        if pieces.len() == 65_536 {
+        if pieces.len() == PIECES {
             return Err(PieceError::TooLong);
         }
         let piece = piece_at(layout.chunk, at, end);

@@ -1,6 +1,7 @@
 ghost use Rattle.std.specs.Prelude.{◌≡◌, ◌≢◌, ◌≤◌, ◌<◌, ◌-◌, ◌%◌, [], length, All, AllPairs, slice_index, IfOk};
 ghost use Rattle.chunk_layout.specs.Striping.{chains_of, in_turn, shuffled, IsLayoutOf, IsInBounds};
 
+use fs_base::limits::{CHAINS, INODE_IDS};
 use fs_base::{Config, Layout, Memory};
 use std::alloc::Global;
 
@@ -41,8 +42,8 @@ fn chains_in_turn(alloc: Global, config: &Config, layout: &Layout) -> Result<Vec
 /// From the last place down to the second, each changes places with one at or before it.
 fn shuffle(mut chains: Vec<u16>, mix: u64) -> Vec<u16>
     requires some { 1 ≤ length chains.items }
-    requires few { length chains.items ≤ 256 }
-    requires mix { mix < 68719476736 }
+    requires few { length chains.items ≤ CHAINS }
+    requires mix { mix < INODE_IDS }
     ensures { result.items ≡ shuffled mix (length chains.items - 1) chains.items }
 {
     for done in 1..chains.len() {

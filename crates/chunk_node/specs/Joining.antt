@@ -27,8 +27,10 @@ bytes_so_far runs run = run_bytes runs ++ replicate run.len run.fill
 
 -- so many bytes more make these runs, and the next that goes on behind them, whatever lies before
 pub record IsJoined (old : List Run) (run : Run) (len fill : ℕ) (new : List Run) (next : Run) : Type 0 where
-  pub goes : (before : List Run) (from : ℕ) → GoesOn from (before ++ old) run → GoesOn from (before ++ new) next
-  pub bytes : (before : List Run) → bytes_so_far (before ++ new) next ≡ bytes_so_far (before ++ old) run ++ replicate len fill
+  pub goes : (before : List Run) (from : ℕ) → GoesOn from (before ++ old) run
+      → GoesOn from (before ++ new) next
+  pub bytes : (before : List Run)
+      → bytes_so_far (before ++ new) next ≡ bytes_so_far (before ++ old) run ++ replicate len fill
   pub last : len ≢ 0 → next.fill ≡ fill
 
 -- ---- a list of runs that is cut

@@ -19,7 +19,8 @@ pub struct WriteDone {
     pub number: u64,
 }
 
-/// A cut: the inode's chunks from index `keep` on go away. Where it `holds` the chunk before them, this one gets
+/// A cut: the inode's chunks from index `keep` on go away. Where it `holds` the chunk before them, this one
+/// gets
 /// exactly `rest` bytes, cut or filled with 0.
 #[derive(Clone, Copy, Debug, PartialEq, Eq)]
 pub struct EndDone {

@@ -8,6 +8,7 @@ ghost use Rattle.chunk_node.specs.Reading.{AreKept, AreRuns, bytes_read};
 use crate::chunks::Chunks;
 use crate::history::{Done, EndDone, WriteDone};
 use crate::runs::Run;
+use fs_base::limits::{CHUNK_BYTES, NODE_BYTES, NODE_CALLS};
 use fs_base::{InodeId, Memory};
 use std::alloc::{AllocError, Global};
 use std::collections::BTreeMap;
@@ -97,9 +98,11 @@ impl NodeState {
         offset: u32,
         len: u32,
     ) -> Result<(u64, Vec<Run>), NodeError>
-        requires { offset + len ≤ 4194304 }
+        requires { offset + len ≤ CHUNK_BYTES }
         ensures front { IfOk result (λ answer. answer.0 ≡ length self.now) }
-        ensures runs { IfOk result (λ answer. AreRuns (bytes_read (chunk_after self.now inode index) offset len) offset answer.1.items) }
+        ensures runs { IfOk result
+            (λ answer. AreRuns (bytes_read (chunk_after self.now inode index) offset len) offset
+            answer.1.items) }
         ensures unremoved { OnOk result (removal_of self.now inode ≡ None) }
         ensures cause { IfErr result (λ why. HasCause (removal_of self.now inode) false why) }
     {
@@ -144,19 +147,19 @@ impl NodeState {
     fn is_full(&self) -> bool
         ensures { result ≡ is_full self.now }
     {
-        self.counted >= 200_000
+        self.counted >= NODE_CALLS
     }
 
     fn is_full_for(&self, len: u32) -> bool
         ensures { result ≡ is_full_for self.now len }
     {
-        self.written + u64::from(len) > 33_554_432 || self.counted >= 200_000
+        self.written + u64::from(len) > NODE_BYTES || self.counted >= NODE_CALLS
     }
 
     /// Writes one byte value over a range of a chunk, and answers the place in the history.
     pub fn write(&mut self, w: WriteDone) -> Result<u64, NodeError>
         requires some { 1 ≤ w.len }
-        requires short { w.offset + w.len ≤ 4194304 }
+        requires short { w.offset + w.len ≤ CHUNK_BYTES }
         ensures ok { OnOk result (self.new ≡ self.old ++ Done.Write w ∷ []) }
         ensures place { IfOk result (λ place. place ≡ length self.old + 1) }
         ensures unremoved { OnOk result (removal_of self.old w.inode ≡ None) }
@@ -183,7 +186,7 @@ impl NodeState {
     /// Cuts an inode's chunks, and answers the place in the history.
     pub fn set_end(&mut self, s: EndDone) -> Result<u64, NodeError>
         requires holds { s.holds ≡ true → 1 ≤ s.keep }
-        requires short { s.rest ≤ 4194304 }
+        requires short { s.rest ≤ CHUNK_BYTES }
         ensures ok { OnOk result (self.new ≡ self.old ++ Done.SetEnd s ∷ []) }
         ensures place { IfOk result (λ place. place ≡ length self.old + 1) }
         ensures unremoved { OnOk result (removal_of self.old s.inode ≡ None) }

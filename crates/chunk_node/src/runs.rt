@@ -56,7 +56,8 @@ pub fn ended_by(runs: &[Run], at: u32) -> usize
     requires { InRow 0 runs.now }
     ensures within { result ≤ length runs.now }
     ensures ended { length (run_bytes (take result runs.now)) ≤ at }
-    ensures next { (d : Run) → result < length runs.now → at < (get_or runs.now result d).offset + (get_or runs.now result d).len }
+    ensures next { (d : Run) → result < length runs.now
+        → at < (get_or runs.now result d).offset + (get_or runs.now result d).len }
 {
     runs.partition_point(
         |run: &Run| -> bool
@@ -93,7 +94,8 @@ pub fn front(runs: &[Run], size: u32) -> (usize, Run)
     )
 }
 
-/// The bytes behind the first so many: behind how many runs the whole ones begin, and the part of the one before them.
+/// The bytes behind the first so many: behind how many runs the whole ones begin, and the part of the one
+/// before them.
 pub fn rest(runs: &[Run], size: u32) -> (usize, Run)
     requires row { InRow 0 runs.now }
     ensures { IsRest runs.now size result.0 result.1 }
@@ -124,7 +126,8 @@ pub fn rest(runs: &[Run], size: u32) -> (usize, Run)
 pub fn replace(runs: &mut Vec<Run>, from: usize, to: usize, mut new: Vec<Run>) -> Result<(), Memory>
     requires rising { from ≤ to }
     requires within { to ≤ length runs.old.items }
-    ensures ok { OnOk result (runs.new.items ≡ take from runs.old.items ++ new.items ++ drop to runs.old.items) }
+    ensures ok { OnOk result
+        (runs.new.items ≡ take from runs.old.items ++ new.items ++ drop to runs.old.items) }
     ensures err { OnErr result (runs.new.items ≡ runs.old.items) }
 {
     runs.reserve(new.len())?;

@@ -20,7 +20,8 @@ HoldNone reads writes = (key : List ℕ) → is_written_key writes key ≡ true 
 pub record IsLeastHeld (reads : ReadSet) (writes : List Write) (key : List ℕ) : Type 0 where
   pub written : is_written_key writes key ≡ true
   pub held : reads_hold reads key ≡ true
-  pub least : (other : List ℕ) → is_written_key writes other ≡ true → reads_hold reads other ≡ true → is_le (key_cmp key other) ≡ true
+  pub least : (other : List ℕ) → is_written_key writes other ≡ true → reads_hold reads other ≡ true
+      → is_le (key_cmp key other) ≡ true
 
 -- the write at this place is the first whose key is held
 pub record HeldAt (reads : ReadSet) (writes : List Write) (place : ℕ) : Type 0 where
@@ -29,4 +30,5 @@ pub record HeldAt (reads : ReadSet) (writes : List Write) (place : ℕ) : Type 0
 
 -- the write at this place has the least key that is held
 abbrev pub LeastAt : ReadSet → List Write → ℕ → Type 0
-LeastAt reads writes place = (write : Write) → slice_get writes place ≡ Some write → IsLeastHeld reads writes write.key
+LeastAt reads writes place =
+    (write : Write) → slice_get writes place ≡ Some write → IsLeastHeld reads writes write.key

@@ -18,7 +18,8 @@ KeysAgree rows (read ∷ reads) = (value_at_key rows read.key ≡ read.value) ×
 -- each range read gives the rows read
 abbrev pub RangesAgree : List Row → List RangeRead → Type 0
 RangesAgree rows [] = Unit {0}
-RangesAgree rows (read ∷ reads) = (rows_between rows read.lo read.hi read.limit ≡ read.rows) × RangesAgree rows reads
+RangesAgree rows (read ∷ reads) =
+    (rows_between rows read.lo read.hi read.limit ≡ read.rows) × RangesAgree rows reads
 
 -- the rows give what was read
 pub record Agrees (rows : List Row) (reads : ReadSet) : Type 0 where
@@ -41,9 +42,11 @@ range_holds read key =
 -- the key was read, or lies in a range that was
 abbrev pub reads_hold : ReadSet → List ℕ → Bool
 reads_hold reads key =
-    list_any (λ read. is_eq (key_cmp key read.key)) reads.keys || list_any (λ read. range_holds read key) reads.ranges
+    list_any (λ read. is_eq (key_cmp key read.key)) reads.keys || list_any (λ read. range_holds read key)
+    reads.ranges
 
 -- the first written key that the reads hold
 abbrev pub first_held : ReadSet → List Write → Option (List ℕ)
 first_held reads [] = None
-first_held reads (write ∷ writes) = if reads_hold reads write.key then Some write.key else first_held reads writes
+first_held reads (write ∷ writes) =
+    if reads_hold reads write.key then Some write.key else first_held reads writes

@@ -49,7 +49,8 @@ placed Greater key value row rows later = row ∷ later
 -- the rows with one key set or removed
 abbrev pub with_write : List ℕ → Option (List ℕ) → List Row → List Row
 with_write key value [] = new_row key value
-with_write key value (row ∷ rows) = placed (key_cmp key row.key) key value row rows (with_write key value rows)
+with_write key value (row ∷ rows) =
+    placed (key_cmp key row.key) key value row rows (with_write key value rows)
 
 -- the rows after these writes
 abbrev pub with_writes : List Row → List Write → List Row

@@ -11,7 +11,8 @@ use fs_base::Row;
 
 /// The place of the least written key that the reads hold.
 ///
-/// The reads hold each key that was read, and each key in a range that was read: from its `lo` up to its last row
+/// The reads hold each key that was read, and each key in a range that was read: from its `lo` up to its last
+/// row
 /// where its rows are as many as its limit, and else up to, and without, its `hi`.
 pub fn first_conflict(reads: &ReadSet, writes: &WriteSet) -> Option<usize>
     ensures place { result ≡ position (λ write. reads_hold reads.now write.key) writes.now.writes }

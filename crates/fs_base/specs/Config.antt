@@ -2,6 +2,7 @@
 use Rattle.std.specs.Prelude.{ℕ, ◌≤◌, ◌%◌, nat_le, ◌&&◌, Bool, if◌then◌else◌, Option, Some, None}
 use Rattle.fs_base.specs.declared.layout.DefaultLayout.{DefaultLayout}
 use Rattle.fs_base.specs.declared.layout.Layout.{Layout}
+use Rattle.fs_base.specs.declared.limits.TheConstants.{CHAINS, CHUNK_BYTES, NODES, SERVERS}
 
 -- servers, storage nodes, replica chains; the root's default layout: a chunk in bytes, a stripe in chains
 pub record Settings : Type 0 where
@@ -13,13 +14,13 @@ pub record Settings : Type 0 where
 
 pub record IsConfig (servers nodes chains chunk stripe : ℕ) : Type 0 where
   pub servers_from : 1 ≤ servers
-  pub servers_to : servers ≤ 16
+  pub servers_to : servers ≤ SERVERS
   pub nodes_from : 1 ≤ nodes
-  pub nodes_to : nodes ≤ 16
+  pub nodes_to : nodes ≤ NODES
   pub chains_from : 1 ≤ chains
-  pub chains_to : chains ≤ 256
+  pub chains_to : chains ≤ CHAINS
   pub chunk_from : 1 ≤ chunk
-  pub chunk_to : chunk ≤ 4194304
+  pub chunk_to : chunk ≤ CHUNK_BYTES
   pub stripe_from : 1 ≤ stripe
   pub stripe_to : stripe ≤ chains
 
@@ -29,11 +30,14 @@ default_settings = record { servers = 1; nodes = 1; chains = 1; chunk = 1048576;
 
 -- a directory's default: a chunk of 1 to 4,194,304 bytes over 1 to all chains
 abbrev pub admits : Settings → DefaultLayout → Bool
-admits settings layout = (nat_le 1 layout.chunk && nat_le layout.chunk 4194304) && (nat_le 1 layout.stripe && nat_le layout.stripe settings.chains)
+admits settings layout =
+    (nat_le 1 layout.chunk && nat_le layout.chunk CHUNK_BYTES)
+    && (nat_le 1 layout.stripe && nat_le layout.stripe settings.chains)
 
 -- the layout of an inode: it starts at the chain of its number, and is shuffled by it
 abbrev pub layout_at : Settings → ℕ → DefaultLayout → Layout
-layout_at settings id given = record { chunk = given.chunk; stripe = given.stripe; start = id % settings.chains; mix = id }
+layout_at settings id given =
+    record { chunk = given.chunk; stripe = given.stripe; start = id % settings.chains; mix = id }
 
 -- for a chunk and stripe that the configuration admits
 abbrev pub layout_given : Settings → ℕ → DefaultLayout → Option Layout

@@ -5,6 +5,7 @@ use crate::code::Code;
 use crate::ids::{ClientId, InodeId};
 use crate::items::{Items, Text};
 use crate::layout::DefaultLayout;
+use crate::limits::INODE_IDS;
 use crate::memory::Memory;
 use crate::path::{Path, PathError};
 use std::alloc::Global;
@@ -32,7 +33,7 @@ impl Place {
     /// An equal place of its own.
     pub fn try_clone(&self, alloc: Global) -> Result<Place, Memory>
         ensures copy { IfOk result (λ place. place ≡ self.now) }
-        ensures base { self.now.base < 2 ^ 36 }
+        ensures base { self.now.base < INODE_IDS }
     {
         let base = InodeId::new(self.base.get());
         let text = Text::from_slice(alloc, self.text.as_slice())?;

@@ -2,11 +2,13 @@ ghost use Rattle.std.specs.Prelude.{◌≡◌, ◌≤◌, ◌↔◌, IsSome, IfS
 ghost use Rattle.fs_base.specs.Config.{IsConfig, default_settings, admits};
 
 use crate::layout::DefaultLayout;
+use crate::limits::{CHAINS, CHUNK_BYTES, NODES, SERVERS};
 use std::marker::Model;
 
 /// The numbers of servers, storage nodes and replica chains, and the root's default layout.
 ///
-/// Servers and nodes are 1 to 16, chains 1 to 256, the chunk 1 to 4,194,304 bytes, the stripe 1 to the chains.
+/// Servers and nodes are 1 to 16, chains 1 to 256, the chunk 1 to 4,194,304 bytes, the stripe 1 to the
+/// chains.
 #[derive(Clone, Copy, Debug, PartialEq, Eq)]
 pub struct Config {
     servers: u8,
@@ -53,13 +55,13 @@ impl Config {
         }) }
     {
         if 1 <= servers
-            && servers <= 16
+            && servers <= SERVERS
             && 1 <= nodes
-            && nodes <= 16
+            && nodes <= NODES
             && 1 <= chains
-            && chains <= 256
+            && chains <= CHAINS
             && 1 <= chunk
-            && chunk <= 4_194_304
+            && chunk <= CHUNK_BYTES
             && 1 <= stripe
             && stripe <= chains
         {
@@ -132,7 +134,7 @@ impl Config {
     pub fn admits(&self, layout: DefaultLayout) -> bool
         ensures { result ≡ admits self.now layout }
     {
-        (1 <= layout.chunk && layout.chunk <= 4_194_304)
+        (1 <= layout.chunk && layout.chunk <= CHUNK_BYTES)
             && (1 <= layout.stripe && layout.stripe <= self.chains)
     }
 }

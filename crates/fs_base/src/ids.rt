@@ -1,5 +1,6 @@
 ghost use Rattle.std.specs.Prelude.{◌≡◌, ◌<◌, ◌^◌, ◌↔◌, IsSome, IfSome};
 
+use crate::limits::INODE_IDS;
 use std::marker::Model;
 
 /// The number of an inode, below 2^36.
@@ -30,7 +31,7 @@ impl InodeId {
 
     /// For a number that is known to be below 2^36.
     pub fn new(value: u64) -> InodeId
-        requires { value < 2 ^ 36 }
+        requires { value < INODE_IDS }
         ensures { result ≡ value }
     {
         InodeId { value }
@@ -38,10 +39,10 @@ impl InodeId {
 
     /// `None` exactly where the number isn't below 2^36.
     pub fn read(value: u64) -> Option<InodeId>
-        ensures some { IsSome result ↔ (value < 2 ^ 36) }
+        ensures some { IsSome result ↔ (value < INODE_IDS) }
         ensures value { IfSome result (λ i. i ≡ value) }
     {
-        if value < 1 << 36 {
+        if value < INODE_IDS {
             Some(InodeId { value })
         } else {
             None
@@ -51,7 +52,7 @@ impl InodeId {
     /// The number.
     pub fn get(self) -> u64
         ensures value { result ≡ self }
-        ensures bound { self < 2 ^ 36 }
+        ensures bound { self < INODE_IDS }
     {
         self.value
     }

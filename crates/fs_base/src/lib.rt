@@ -9,6 +9,7 @@ mod ids;
 mod items;
 mod kind;
 mod layout;
+pub mod limits;
 mod memory;
 mod name;
 mod path;

@@ -66,7 +66,8 @@ free_room sink = sink.room - length sink.written
 
 -- `put` fails at the listed calls, and where there are bytes and no room is left
 abbrev pub put_fails : MemoryOutput → List ℕ → Bool
-put_fails sink bytes = is_next_listed sink.failing sink.calls || (nat_lt 0 (length bytes) && (free_room sink == 0))
+put_fails sink bytes =
+    is_next_listed sink.failing sink.calls || (nat_lt 0 (length bytes) && (free_room sink == 0))
 
 -- how many of the bytes `put` writes: as many as there is room for
 abbrev pub count_written : MemoryOutput → List ℕ → ℕ
@@ -81,4 +82,5 @@ abbrev pub after_put : MemoryOutput → List ℕ → MemoryOutput
 after_put sink bytes =
     if put_fails sink bytes
     then record sink { calls = raised sink.calls; faults = raised sink.faults }
-    else record sink { calls = raised sink.calls; written = sink.written ++ take (count_written sink bytes) bytes }
+    else record sink
+    { calls = raised sink.calls; written = sink.written ++ take (count_written sink bytes) bytes }

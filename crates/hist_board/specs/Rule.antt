@@ -1,5 +1,6 @@
 -- The rule of the board.
--- Words 3 o, 3 o + 1 and 3 o + 2 are the ticket, serving and length of the object o, and the slot o is its place.
+-- Words 3 o, 3 o + 1 and 3 o + 2 are the ticket, serving and length of the object o, and the slot o is its
+-- place.
 use Rattle.std.specs.Prelude.{◌≡◌, ℕ, ◌+◌, ◌*◌, ◌^◌, ◌<◌, ◌≤◌, ◌==◌, ◌⊎◌, zero, suc, not, nat_lt, min, fold, filter, if◌then◌else◌, true, false, List, [], ◌∷◌, ◌++◌, map, length, Contains, Option, Some, None, is_some, slice_index, slice_index_or, slice_set}
 use mathlib.Core.Option.{none, some}
 use mathlib.Core.Option as maybe
@@ -40,8 +41,10 @@ module _ {I : Type 0} where
       × ((i : ℕ) (l : Lane I) → get_elem? lanes i ≡ some l → l.turn.out ≡ false)
   InPlace hist same h lanes none = SomeLane lanes (λ l. l.turn.out ≡ true)
 
--- What the rule says of one object, of which t, s and n are the ticket, serving and length. Tickets of different
--- views differ, and each from serving to below ticket is some view's. The object is in its place, its length is
+-- What the rule says of one object, of which t, s and n are the ticket, serving and length. Tickets of
+-- different
+-- views differ, and each from serving to below ticket is some view's. The object is in its place, its length
+-- is
 -- that of its history, and some view has seen that whole.
 pub record ObjectKept {S I : Type 0} (hist : S → List I) (same : S → Type 0) (errands : I → List ℕ)
     (t s n : ℕ) (home : maybe.Option S) (h : List I) (lanes : List (Lane I)) : Type 0 where
@@ -103,8 +106,10 @@ module _ {I F : Type 0} where
 abbrev pub ERRANDS : ℕ
 ERRANDS = 65536
 
--- The rule: there are histories of all objects, which fit, and which each object and each view keeps to. No two
--- views hold one errand, and each errand is held. A view that was joined away is spent: it has seen and holds nothing.
+-- The rule: there are histories of all objects, which fit, and which each object and each view keeps to. No
+-- two
+-- views hold one errand, and each errand is held. A view that was joined away is spent: it has seen and holds
+-- nothing.
 pub record Kept {S I F : Type 0} (hist : S → List I) (same : ℕ → S → Type 0) (errands : I → List ℕ)
     (fits : List (List I) → Type 0) (frame : Option F) (kinds : List ℕ)
     (s : State S (View I F)) : Type 0 where

@@ -38,7 +38,10 @@ impl<S: Held + Drop> Board<S> {
 fn first_words<S: Held>(objects: &Vec<S>) -> ([u64; 51], [u64; 17])
     requires { vec_len objects.now ≤ 17 }
     ensures sizes { (length result.0 ≡ 51) × (length result.1 ≡ 17) }
-    ensures each { (o : ℕ) (x : S) → get_elem? objects.now.items o ≡ some x → (slice_index result.0 (3 * o) ≡ 0) × (slice_index result.0 (3 * o + 1) ≡ 0) × (slice_index result.0 (3 * o + 2) ≡ length (S.history x)) × (slice_index result.1 o ≡ length (S.history x)) }
+    ensures each { (o : ℕ) (x : S) → get_elem? objects.now.items o ≡ some x
+        → (slice_index result.0 (3 * o) ≡ 0) × (slice_index result.0 (3 * o + 1) ≡ 0)
+        × (slice_index result.0 (3 * o + 2) ≡ length (S.history x))
+        × (slice_index result.1 o ≡ length (S.history x)) }
 {
     let mut words = [0u64; 51];
     let mut lengths = [0u64; 17];

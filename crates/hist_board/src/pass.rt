@@ -40,7 +40,8 @@ impl<S: Held> Pass<S> {
     /// Waits for the object's turn, lends it once to the work, and passes the turn on. It may wait for ever.
     ///
     /// The work may add one entry to the end of the history, if this pass holds the entry's errands and if it
-    /// fits whatever the other histories are, as far as this pass can know. Else it leaves the history as it is.
+    /// fits whatever the other histories are, as far as this pass can know. Else it leaves the history as it
+    /// is.
     pub fn turn_with<W: Wait, R, F: FnOnce(&mut S) -> R>(
         &mut self,
         rt: &W,
@@ -108,7 +109,8 @@ impl<S: Held> Pass<S> {
 // The greater number at each place.
 fn longest(first: &[u64; 17], second: &[u64; 17]) -> [u64; 17]
     ensures size { length result ≡ 17 }
-    ensures each { (o : ℕ) → o < 17 → slice_index result o ≡ max (slice_index first.now o) (slice_index second.now o) }
+    ensures each { (o : ℕ) → o < 17
+        → slice_index result o ≡ max (slice_index first.now o) (slice_index second.now o) }
 {
     let mut lengths = [0; 17];
     for i in 0..17 {

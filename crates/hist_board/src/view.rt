@@ -5,7 +5,8 @@ ghost use Rattle.hist_board.specs.Turn.{Turn, Past};
 
 use std::marker::{Model, PhantomData};
 
-/// What a pass has seen of each history, its errands and its turns. Contracts alone see it, and no value of it
+/// What a pass has seen of each history, its errands and its turns. Contracts alone see it, and no value of
+/// it
 /// is made.
 pub struct View<I, F> {
     marker: PhantomData<(I, F)>,

@@ -26,11 +26,14 @@ tree_at C journal n = tree_after C (new_tree C) (take n journal)
 -- each reply is the tree's at its place
 abbrev pub AreReplies : Settings → Tree → List Entry → Type 0
 AreReplies C T [] = Unit {0}
-AreReplies C T (entry ∷ entries) = ((applied C T entry).1 ≡ entry.reply) × AreReplies C (applied C T entry).0 entries
+AreReplies C T (entry ∷ entries) =
+    ((applied C T entry).1 ≡ entry.reply) × AreReplies C (applied C T entry).0 entries
 
 -- no client's number stands twice
 abbrev pub IsOnce : List Entry → Type 0
-IsOnce journal = (i j : ℕ) (a b : Entry) → EntryAt journal i a → EntryAt journal j b → a.request.client ≡ b.request.client → a.request.number ≡ b.request.number → i ≡ j
+IsOnce journal =
+    (i j : ℕ) (a b : Entry) → EntryAt journal i a → EntryAt journal j b → a.request.client ≡ b.request.client
+    → a.request.number ≡ b.request.number → i ≡ j
 
 -- the journal is a history of the plain tree
 pub record IsLegal (C : Settings) (journal : List Entry) : Type 0 where

@@ -7,6 +7,7 @@ use Rattle.fs_base.specs.declared.call.Request.{Request}
 use Rattle.fs_base.specs.declared.layout.Layout.{Layout}
 use Rattle.fs_base.specs.declared.reply.Reply.{Reply}
 use Rattle.fs_base.specs.declared.reply.Reply.TheVariants.{Done}
+use Rattle.fs_base.specs.declared.limits.TheConstants.{SERVERS}
 use Rattle.tree_model.specs.declared.kept.Doom.TheVariants.{Waiting, Purged}
 use Rattle.tree_model.specs.declared.node.Node.{Node}
 use Rattle.tree_model.specs.declared.node.NodePart.{NodePart}
@@ -33,7 +34,7 @@ NodeLasts (Some old) (Some new) = PartLasts old.part new.part
 -- a server's next number was given out for the id
 pub record IsGivenOut (T V : Tree) (id : ℕ) : Type 0 where
   pub server : ℕ
-  pub known : server < 16
+  pub known : server < SERVERS
   pub is : id ≡ id_of (next_at T.next server) server
   pub rises : next_at T.next server < next_at V.next server
 
@@ -43,7 +44,8 @@ pub record IsTreeStep (T V : Tree) : Type 0 where
   pub nodes : (id : ℕ) → NodeLasts (get T.nodes id) (get V.nodes id) ⊎ IsGivenOut T V id
   -- a purge takes the node, and remembers how its chunks lay
   pub purged : (id : ℕ) (layout : Layout) (hint : ℕ) → get V.doomed id ≡ Some (Purged layout hint)
-      → (get T.doomed id ≡ Some (Purged layout hint)) ⊎ ((file_at T id ≡ Some (record { layout = layout; hint = hint })) × (get V.nodes id ≡ None))
+      → (get T.doomed id ≡ Some (Purged layout hint))
+      ⊎ ((file_at T id ≡ Some (record { layout = layout; hint = hint })) × (get V.nodes id ≡ None))
 
 -- a purge that is done: the file was waiting, nobody wrote it, and its node goes
 pub record IsPurging (T V : Tree) (id : ℕ) : Type 0 where
@@ -58,13 +60,16 @@ pub record IsChange (q : Request) (reply : Reply) (T V : Tree) : Type 0 where
   pub step : IsTreeStep T V
   pub kept : V.kept ≡ T.kept
   -- nothing but a purge of the file leaves it purged
-  pub purges : (id : ℕ) (layout : Layout) (hint : ℕ) → get V.doomed id ≡ Some (Purged layout hint) → (get T.doomed id ≡ Some (Purged layout hint)) ⊎ (q.call ≡ calls.Purge id)
+  pub purges : (id : ℕ) (layout : Layout) (hint : ℕ) → get V.doomed id ≡ Some (Purged layout hint)
+      → (get T.doomed id ≡ Some (Purged layout hint)) ⊎ (q.call ≡ calls.Purge id)
   pub purge : (id : ℕ) → q.call ≡ calls.Purge id → IsPurging T V id
   pub done : (id : ℕ) → q.call ≡ calls.Purge id → reply ≡ Done
 
 -- all calls owe it; a settling does at each length
 abbrev pub IsLawful : Settings → Type 0
-IsLawful C = (T V : Tree) (q : Request) (reply : Reply) → q.server < C.servers → at_length (settled_by reply) (effect C T q) ≡ Makes V reply → IsChange q reply T V
+IsLawful C =
+    (T V : Tree) (q : Request) (reply : Reply) → q.server < C.servers
+    → at_length (settled_by reply) (effect C T q) ≡ Makes V reply → IsChange q reply T V
 
 -- a purge that leaves the tree isn't answered Done
 abbrev pub PurgesMake : Settings → Type 0

@@ -1,6 +1,7 @@
 -- The bytes of an inode's row.
 use Rattle.std.specs.Prelude.{ℕ, List, [], ◌∷◌, Bool, Result}
 use Rattle.fs_base.specs.declared.layout.Layout.{Layout}
+use Rattle.fs_base.specs.declared.limits.TheConstants.{LINK_COUNT}
 use Rattle.byte_fields.specs.Forms.{Form, paired, shaped, Arm, arm, Tagged, tagged, choice, whole}
 use Rattle.byte_fields.specs.Fields.{within, number_1, number_4, inode_id, mode, time, file_size, chunk, stripe, used_layout, path_text, versioned}
 use Rattle.inode_record.specs.declared.inode.Access.{Access}
@@ -12,11 +13,16 @@ use Rattle.inode_record.specs.declared.inode.InodePart.TheVariants as parts
 
 -- mode, owner, group, links
 unfoldable pub access : Form Access
-access = shaped (paired mode (paired number_4 (paired number_4 (within number_4 0 65535)))) (λ (m, (o, (g, l))). record { mode = m; owner = o; group = g; links = l }) (λ a. (a.mode, (a.owner, (a.group, a.links))))
+access =
+    shaped (paired mode (paired number_4 (paired number_4 (within number_4 0 LINK_COUNT))))
+    (λ (m, (o, (g, l))). record { mode = m; owner = o; group = g; links = l })
+    (λ a. (a.mode, (a.owner, (a.group, a.links))))
 
 -- access, modification and change time
 unfoldable pub times : Form Times
-times = shaped (paired time (paired time time)) (λ (a, (m, c)). record { atime = a; mtime = m; ctime = c }) (λ t. (t.atime, (t.mtime, t.ctime)))
+times =
+    shaped (paired time (paired time time)) (λ (a, (m, c)). record { atime = a; mtime = m; ctime = c })
+    (λ t. (t.atime, (t.mtime, t.ctime)))
 
 -- what every kind has
 unfoldable pub head : Form Head
@@ -51,18 +57,24 @@ with_part h part = record {
 -- kinds: 1 a directory, 2 a file, 3 a link; that the arms, by tag, are the same table is proved
 -- (`inodes_are_spelled`)
 abbrev pub written_part : Head → InodePart → Tagged
-written_part h (parts.Dir parent chunk stripe) = tagged 1 (paired head dir_part) (h, (parent, (chunk, stripe)))
-written_part h (parts.File length truncs layout hint) = tagged 2 (paired head file_part) (h, (length, (truncs, (layout, hint))))
+written_part h (parts.Dir parent chunk stripe) =
+    tagged 1 (paired head dir_part) (h, (parent, (chunk, stripe)))
+written_part h (parts.File length truncs layout hint) =
+    tagged 2 (paired head file_part) (h, (length, (truncs, (layout, hint))))
 written_part h (parts.Link target) = tagged 3 (paired head path_text) (h, target)
 
 abbrev pub written_inode : InodeRow → Tagged
 written_inode row = written_part (head_of row) row.part
 
 abbrev pub dir_arm : Arm InodeRow
-dir_arm = arm 1 (paired head dir_part) (λ (h, (parent, (chunk, stripe))). with_part h (parts.Dir parent chunk stripe))
+dir_arm =
+    arm 1 (paired head dir_part)
+    (λ (h, (parent, (chunk, stripe))). with_part h (parts.Dir parent chunk stripe))
 
 abbrev pub file_arm : Arm InodeRow
-file_arm = arm 2 (paired head file_part) (λ (h, (length, (truncs, (layout, hint)))). with_part h (parts.File length truncs layout hint))
+file_arm =
+    arm 2 (paired head file_part)
+    (λ (h, (length, (truncs, (layout, hint)))). with_part h (parts.File length truncs layout hint))
 
 abbrev pub link_arm : Arm InodeRow
 link_arm = arm 3 (paired head path_text) (λ (h, target). with_part h (parts.Link target))
@@ -73,7 +85,8 @@ by_kind = choice number_1 written_inode (dir_arm ∷ file_arm ∷ link_arm ∷ [
 unfoldable pub inode : Form InodeRow
 inode = versioned by_kind
 
--- the bytes of a row; whether a row may be spelled; and the row that bytes spell, or the place where they don't
+-- the bytes of a row; whether a row may be spelled; and the row that bytes spell, or the place where they
+-- don't
 abbrev pub spelled_inode : InodeRow → List ℕ
 spelled_inode = inode.spelled
 

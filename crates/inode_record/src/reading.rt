@@ -6,6 +6,7 @@ ghost use Rattle.inode_record.specs.Inode.{access, times, head, dir_arm, file_ar
 use crate::inode::{Access, Head, InodePart, InodeRow, Times};
 use byte_fields::{Cursor, FieldError, RowError};
 use fs_base::Text;
+use fs_base::limits::LINK_COUNT;
 use std::alloc::Global;
 
 impl InodeRow {
@@ -47,7 +48,7 @@ fn access(cursor: &mut Cursor) -> Result<Access, FieldError>
     let mode = cursor.mode()?;
     let owner = cursor.u32()?;
     let group = cursor.u32()?;
-    let links = cursor.u32_within(0, 65_535)?;
+    let links = cursor.u32_within(0, LINK_COUNT)?;
     Ok(Access {
         mode,
         owner,

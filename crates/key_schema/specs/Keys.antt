@@ -3,6 +3,7 @@ use Rattle.std.specs.Prelude.{◌≡◌, ℕ, ◌<◌, ◌≤◌, ◌^◌, List,
 use Rattle.std.specs.Int.{w64, w128, to_le_bytes, to_be_bytes}
 use Rattle.fs_base.specs.Names.{is_name}
 use Rattle.fs_base.specs.declared.ids.ClientId.{ClientId}
+use Rattle.fs_base.specs.declared.limits.TheConstants.{INODE_IDS, SERVERS}
 use Rattle.key_schema.specs.declared.key.Key.{Key}
 use Rattle.key_schema.specs.declared.key.Key.TheVariants as keys
 
@@ -22,7 +23,8 @@ body (keys.Dent parent name) = to_le_bytes w64 parent ++ name
 body (keys.Gc id) = to_le_bytes w64 id
 body (keys.Idem client) = to_be_bytes w128 client.0
 body (keys.Inode id) = to_le_bytes w64 id
-body (keys.Session inode client number) = to_le_bytes w64 inode ++ (to_be_bytes w128 client.0 ++ to_be_bytes w64 number)
+body (keys.Session inode client number) =
+    to_le_bytes w64 inode ++ (to_be_bytes w128 client.0 ++ to_be_bytes w64 number)
 
 unfoldable pub spelled_key : Key → List ℕ
 spelled_key key = letters key ++ body key
@@ -33,12 +35,12 @@ IsHolder client number = (client.0 < 2 ^ 128) × (1 ≤ number) × (number < 2 ^
 
 -- each number is in its range, and a name is one
 abbrev pub IsValidKey : Key → Type 0
-IsValidKey (keys.Alloc server) = server < 16
-IsValidKey (keys.Dent parent name) = (parent < 2 ^ 36) × IsTrue (is_name name)
-IsValidKey (keys.Gc id) = id < 2 ^ 36
+IsValidKey (keys.Alloc server) = server < SERVERS
+IsValidKey (keys.Dent parent name) = (parent < INODE_IDS) × IsTrue (is_name name)
+IsValidKey (keys.Gc id) = id < INODE_IDS
 IsValidKey (keys.Idem client) = client.0 < 2 ^ 128
-IsValidKey (keys.Inode id) = id < 2 ^ 36
-IsValidKey (keys.Session inode client number) = (inode < 2 ^ 36) × IsHolder client number
+IsValidKey (keys.Inode id) = id < INODE_IDS
+IsValidKey (keys.Session inode client number) = (inode < INODE_IDS) × IsHolder client number
 
 -- each number fits its bytes
 abbrev pub IsSpellable : Key → Type 0

@@ -46,4 +46,5 @@ IsSessionOf id key = (client : ClientId) × (number : ℕ) × (key ≡ keys.Sess
 
 -- the range holds these valid keys and no others
 abbrev pub HoldsExactly : List ℕ → List ℕ → (Key → Type 0) → Type 0
-HoldsExactly lo hi Wanted = (key : Key) → IsValidKey key → IsTrue (is_between lo hi (spelled_key key)) ↔ Wanted key
+HoldsExactly lo hi Wanted =
+    (key : Key) → IsValidKey key → IsTrue (is_between lo hi (spelled_key key)) ↔ Wanted key

@@ -107,7 +107,8 @@ fn put_number(bytes: &mut Vec<u8>, number: u64) -> Result<(), Memory>
 }
 
 fn put_holder(bytes: &mut Vec<u8>, client: ClientId, number: u64) -> Result<(), Memory>
-    ensures { OnOk result (bytes.new.items ≡ bytes.old.items ++ (to_be_bytes w128 client.0 ++ to_be_bytes w64 number)) }
+    ensures { OnOk result
+        (bytes.new.items ≡ bytes.old.items ++ (to_be_bytes w128 client.0 ++ to_be_bytes w64 number)) }
 {
     put_client(bytes, client)?;
     put_number(bytes, number)
@@ -119,7 +120,9 @@ fn put_session(
     client: ClientId,
     number: u64,
 ) -> Result<(), Memory>
-    ensures { OnOk result (bytes.new.items ≡ bytes.old.items ++ (to_le_bytes w64 file ++ (to_be_bytes w128 client.0 ++ to_be_bytes w64 number))) }
+    ensures { OnOk result
+        (bytes.new.items ≡ bytes.old.items
+        ++ (to_le_bytes w64 file ++ (to_be_bytes w128 client.0 ++ to_be_bytes w64 number))) }
 {
     put_id(bytes, file)?;
     put_holder(bytes, client, number)?;

@@ -28,7 +28,8 @@ impl Key {
     /// The order of what follows the letters, where these are the same.
     #[tactic(auto, using(crate::proofs::Orders::after_id))]
     fn cmp_body(&self, other: &Key) -> Ordering
-        ensures { letters self.now ≡ letters other.now → result ≡ slice_cmp nat_cmp (body self.now) (body other.now) }
+        ensures { letters self.now ≡ letters other.now
+            → result ≡ slice_cmp nat_cmp (body self.now) (body other.now) }
     {
         match (self, other) {
             (Key::Alloc(a), Key::Alloc(b)) => [*a].cmp(&[*b]),
@@ -54,7 +55,9 @@ fn cmp_ids(a: InodeId, b: InodeId) -> Ordering
 /// The order of two clients, and of their sessions' numbers where it is one client.
 #[tactic(auto, using(crate::proofs::Orders::after_client))]
 fn cmp_holders(a: u128, m: u64, b: u128, n: u64) -> Ordering
-    ensures { result ≡ slice_cmp nat_cmp (to_be_bytes w128 a ++ to_be_bytes w64 m) (to_be_bytes w128 b ++ to_be_bytes w64 n) }
+    ensures { result
+        ≡ slice_cmp nat_cmp (to_be_bytes w128 a ++ to_be_bytes w64 m)
+        (to_be_bytes w128 b ++ to_be_bytes w64 n) }
 {
     let clients = a.to_be_bytes().cmp(&b.to_be_bytes());
     clients.then(m.to_be_bytes().cmp(&n.to_be_bytes()))

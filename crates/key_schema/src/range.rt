@@ -3,13 +3,19 @@ ghost use Rattle.std.specs.Int.{w64, to_le_bytes};
 ghost use Rattle.key_schema.specs.Ranges.{HoldsExactly, IsDentOf, IsSessionOf, dir_prefix, raised, session_prefix};
 
 use fs_base::InodeId;
+use fs_base::limits::INODE_IDS;
 
 /// Four letters and an id, and the same with the last byte raised by one.
 ///
 /// The last byte of an id below 2^36 is 0, so it can rise.
 fn range_of(letters: (u8, u8, u8, u8), id: u64) -> ([u8; 12], [u8; 12])
-    requires { id < 2 ^ 36 }
-    ensures { result ≡ (letters.0 ∷ letters.1 ∷ letters.2 ∷ letters.3 ∷ to_le_bytes w64 id, raised (letters.0 ∷ letters.1 ∷ letters.2 ∷ letters.3 ∷ to_le_bytes w64 id)) }
+    requires { id < INODE_IDS }
+    ensures { result
+        ≡ (
+          letters.0 ∷ letters.1 ∷ letters.2 ∷ letters.3
+              ∷ to_le_bytes w64 id,
+          raised (letters.0 ∷ letters.1 ∷ letters.2 ∷ letters.3 ∷ to_le_bytes w64 id),
+        ) }
 {
     let (a, b, c, d) = letters;
     let [e, f, g, h, i, j, k, l] = id.to_le_bytes();

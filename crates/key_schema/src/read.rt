@@ -7,18 +7,20 @@ ghost use Rattle.key_schema.specs.declared.key.Key.TheVariants as keys;
 ghost use Rattle.key_schema.specs.declared.key.KeyError.TheVariants as errors;
 
 use crate::key::{Key, KeyError};
+use fs_base::limits::{INODE_IDS, SERVERS};
 use fs_base::{ClientId, InodeId, Memory, Name, NameError};
 use std::alloc::Global;
 
 /// The id in the first eight bytes, and what follows it.
 fn id_before(bytes: &[u8]) -> Option<(u64, &[u8])>
-    ensures { MatchOption result ((i : ℕ) (rest : List ℕ) → i < 2 ^ 36 → to_le_bytes w64 i ++ rest ≡ bytes.now → ⊥)
-        (λ found. (found.0 < 2 ^ 36) × (to_le_bytes w64 found.0 ++ found.1.now ≡ bytes.now)) }
+    ensures { MatchOption result
+        ((i : ℕ) (rest : List ℕ) → i < INODE_IDS → to_le_bytes w64 i ++ rest ≡ bytes.now → ⊥)
+        (λ found. (found.0 < INODE_IDS) × (to_le_bytes w64 found.0 ++ found.1.now ≡ bytes.now)) }
 {
     match bytes {
         [a, b, c, d, e, f, g, h, rest @ ..] => {
             let number = u64::from_le_bytes([*a, *b, *c, *d, *e, *f, *g, *h]);
-            if number < 1 << 36 {
+            if number < INODE_IDS {
                 Some((number, rest))
             } else {
                 None
@@ -62,7 +64,7 @@ fn alloc_in(bytes: &[u8]) -> Option<Key>
     ensures { IsForm bytes.now (λ (server : ℕ). keys.Alloc server) result }
 {
     match bytes {
-        [b'A', b'L', b'O', b'C', server] if *server < 16 => Some(Key::Alloc(*server)),
+        [b'A', b'L', b'O', b'C', server] if *server < SERVERS => Some(Key::Alloc(*server)),
         _ => None,
     }
 }
@@ -116,7 +118,9 @@ fn idem_in(bytes: &[u8]) -> Option<Key>
 
 /// A session's client and number, which are all of the bytes.
 fn holder_in(bytes: &[u8]) -> Option<(ClientId, u64)>
-    ensures { MatchOption result ((client : ClientId) (n : ℕ) → IsHolder client n → to_be_bytes w128 client.0 ++ to_be_bytes w64 n ≡ bytes.now → ⊥)
+    ensures { MatchOption result
+        ((client : ClientId) (n : ℕ) → IsHolder client n
+        → to_be_bytes w128 client.0 ++ to_be_bytes w64 n ≡ bytes.now → ⊥)
         (λ found. IsHolder found.0 found.1 × (to_be_bytes w128 found.0.0 ++ to_be_bytes w64 found.1 ≡ bytes.now)) }
 {
     let Some((client, rest)) = client_before(bytes) else {
@@ -130,8 +134,10 @@ fn holder_in(bytes: &[u8]) -> Option<(ClientId, u64)>
 
 /// A session's inode, client and number, which are all of the bytes.
 fn session_of(bytes: &[u8]) -> Option<(u64, ClientId, u64)>
-    ensures { MatchOption result ((x : ℕ × ClientId × ℕ) → x.0 < 2 ^ 36 → IsHolder x.1 x.2 → to_le_bytes w64 x.0 ++ (to_be_bytes w128 x.1.0 ++ to_be_bytes w64 x.2) ≡ bytes.now → ⊥)
-        (λ x. (x.0 < 2 ^ 36) × IsHolder x.1 x.2 × (to_le_bytes w64 x.0 ++ (to_be_bytes w128 x.1.0 ++ to_be_bytes w64 x.2) ≡ bytes.now)) }
+    ensures { MatchOption result
+        ((x : ℕ × ClientId × ℕ) → x.0 < INODE_IDS → IsHolder x.1 x.2
+        → to_le_bytes w64 x.0 ++ (to_be_bytes w128 x.1.0 ++ to_be_bytes w64 x.2) ≡ bytes.now → ⊥)
+        (λ x. (x.0 < INODE_IDS) × IsHolder x.1 x.2 × (to_le_bytes w64 x.0 ++ (to_be_bytes w128 x.1.0 ++ to_be_bytes w64 x.2) ≡ bytes.now)) }
 {
     let Some((inode, rest)) = id_before(bytes) else {
         return None;

@@ -20,7 +20,8 @@ IsRising (first ∷ chain) = AreAbove first.version chain × IsRising chain
 -- those that are at most this version
 abbrev pub up_to : ℕ → List Version → List Version
 up_to version [] = []
-up_to version (first ∷ chain) = if leb first.version version then first ∷ up_to version chain else up_to version chain
+up_to version (first ∷ chain) =
+    if leb first.version version then first ∷ up_to version chain else up_to version chain
 
 abbrev pub last_of : List Version → Option Version
 last_of [] = None
@@ -40,7 +41,8 @@ number_of (Some last) = last.version
 -- none of them comes after the one version and before the other
 abbrev pub AreOutside : ℕ → ℕ → List Version → Type 0
 AreOutside after before [] = Unit {0}
-AreOutside after before (first ∷ chain) = (after < first.version → before ≤ first.version) × AreOutside after before chain
+AreOutside after before (first ∷ chain) =
+    (after < first.version → before ≤ first.version) × AreOutside after before chain
 
 -- this many versions are at most the one, and the others come after it
 pub record IsSplit (chain : List Version) (version place : ℕ) : Type 0 where

@@ -4,19 +4,24 @@ use Rattle.conflict_sets.specs.Held.{HoldNone, IsLeastHeld}
 use Rattle.conflict_sets.specs.declared.sets.ReadSet.{ReadSet}
 use Rattle.conflict_sets.specs.declared.sets.WriteSet.{WriteSet}
 
--- The entry at this place, whose version is one more, wrote a key that the reads hold, and this is the least such
+-- The entry at this place, whose version is one more, wrote a key that the reads hold, and this is the least
+-- such
 -- key. No entry before it, down to the snapshot, wrote one.
-pub record IsFirstLater {E : Type 0} (writes_of : E → WriteSet) (journal : List E) (snapshot : ℕ) (reads : ReadSet) (version : ℕ) (key : List ℕ) : Type 0 where
+pub record IsFirstLater {E : Type 0} (writes_of : E → WriteSet) (journal : List E) (snapshot : ℕ)
+    (reads : ReadSet) (version : ℕ) (key : List ℕ) : Type 0 where
   pub place : ℕ
   pub entry : E
   pub numbered : version ≡ place + 1
   pub later : snapshot ≤ place
   pub there : slice_get journal place ≡ Some entry
   pub least : IsLeastHeld reads (writes_of entry).writes key
-  pub before : (earlier : ℕ) (other : E) → snapshot ≤ earlier → earlier < place → slice_get journal earlier ≡ Some other → HoldNone reads (writes_of other).writes
+  pub before : (earlier : ℕ) (other : E) → snapshot ≤ earlier → earlier < place
+      → slice_get journal earlier ≡ Some other → HoldNone reads (writes_of other).writes
 
 -- no later entry wrote a key that the reads hold; or this is the first that did
 abbrev pub IsFirst : {E : Type 0} → (E → WriteSet) → List E → ℕ → ReadSet → Option (ℕ × List ℕ) → Type 0
 IsFirst {E} writes_of journal snapshot reads None =
-    (place : ℕ) (entry : E) → snapshot ≤ place → slice_get journal place ≡ Some entry → HoldNone reads (writes_of entry).writes
-IsFirst writes_of journal snapshot reads (Some found) = IsFirstLater writes_of journal snapshot reads found.0 found.1
+    (place : ℕ) (entry : E) → snapshot ≤ place → slice_get journal place ≡ Some entry
+    → HoldNone reads (writes_of entry).writes
+IsFirst writes_of journal snapshot reads (Some found) =
+    IsFirstLater writes_of journal snapshot reads found.0 found.1

@@ -24,11 +24,13 @@ written_version (Some value) version = record { version = version; value = value
 abbrev pub chain_from : {E : Type 0} → (E → WriteSet) → List ℕ → ℕ → List E → List Version
 chain_from writes_of key version [] = []
 chain_from writes_of key version (entry ∷ entries) =
-    written_version (written_value (writes_of entry).writes key) (version + 1) ++ chain_from writes_of key (version + 1) entries
+    written_version (written_value (writes_of entry).writes key) (version + 1)
+    ++ chain_from writes_of key (version + 1) entries
 
 -- all versions of a key, oldest first: that of the opening rows, and those of the entries that wrote it
 abbrev pub chain_of : {E : Type 0} → (E → WriteSet) → List Row → List E → List ℕ → List Version
-chain_of writes_of opening journal key = opening_version (value_at_key opening key) ++ chain_from writes_of key 0 journal
+chain_of writes_of opening journal key =
+    opening_version (value_at_key opening key) ++ chain_from writes_of key 0 journal
 
 -- the chain that an ordered map has at a key
 abbrev pub chain_at : List (List ℕ × List Version) → List ℕ → List Version
@@ -36,7 +38,8 @@ chain_at chains key = unwrap_or (lookup (λ other. is_eq (key_cmp key other)) ch
 
 -- the chain with one version more, where this is its key
 abbrev pub with_version : Bool → ℕ → Option (List ℕ) → List Version → List Version
-with_version here version value chain = if here then chain ++ record { version = version; value = value } ∷ [] else chain
+with_version here version value chain =
+    if here then chain ++ record { version = version; value = value } ∷ [] else chain
 
 -- the chain up to this version, where this is its key
 abbrev pub cut_where : Bool → ℕ → List Version → List Version
@@ -48,13 +51,16 @@ cut_written None version chain = chain
 cut_written (Some value) version chain = up_to version chain
 
 -- each key has its versions
-abbrev pub KeepsChains : {E : Type 0} → (E → WriteSet) → List Row → List E → List (List ℕ × List Version) → Type 0
-KeepsChains writes_of opening journal chains = (key : List ℕ) → chain_at chains key ≡ chain_of writes_of opening journal key
+abbrev pub KeepsChains : {E : Type 0} → (E → WriteSet) → List Row → List E → List (List ℕ × List Version)
+    → Type 0
+KeepsChains writes_of opening journal chains =
+    (key : List ℕ) → chain_at chains key ≡ chain_of writes_of opening journal key
 
 -- the rows of these keys at a version
 abbrev pub rows_of : ℕ → List (List ℕ × List Version) → List Row
 rows_of version [] = []
-rows_of version (entry ∷ chains) = new_row entry.0 (value_of (last_of (up_to version entry.1))) ++ rows_of version chains
+rows_of version (entry ∷ chains) =
+    new_row entry.0 (value_of (last_of (up_to version entry.1))) ++ rows_of version chains
 
 -- no chain has a version after the one and before the other
 abbrev pub AllOutside : ℕ → ℕ → List (List ℕ × List Version) → Type 0

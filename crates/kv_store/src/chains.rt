@@ -12,6 +12,7 @@ ghost use Rattle.kv_store.specs.Versions.{opening_version, written_version, chai
 use crate::chain::{Version, VersionChain};
 use crate::read::copied;
 use conflict_sets::{Write, WriteSet};
+use fs_base::limits::JOURNAL_ENTRIES;
 use fs_base::{Memory, Row, Text};
 use std::alloc::Global;
 use std::collections::BTreeMap;
@@ -35,7 +36,8 @@ pub fn seen<'a>(chains: &'a Chains, key: &Text, version: u64) -> Option<&'a Vers
 /// The chains of opening rows, which are of version 0.
 pub fn opening_chains(alloc: Global, rows: &[Row]) -> Result<Chains, Memory>
     requires { IsAscending rows.now }
-    ensures { IfOk result (λ chains. (key : List ℕ) → chain_at chains.entries key ≡ opening_version (value_at_key rows.now key)) }
+    ensures { IfOk result
+        (λ chains. (key : List ℕ) → chain_at chains.entries key ≡ opening_version (value_at_key rows.now key)) }
 {
     let mut chains = BTreeMap::new(alloc);
     for row in rows {
@@ -53,8 +55,13 @@ fn add(
     value: Option<&Text>,
 ) -> Result<(), Memory>
     requires { AreBelow version (chain_at chains.old.entries key.now) }
-    ensures ok { OnOk result ((other : List ℕ) → chain_at chains.new.entries other ≡ with_version (is_eq (key_cmp other key.now)) version (option_copied value.entry) (chain_at chains.old.entries other)) }
-    ensures err { OnErr result ((other : List ℕ) → chain_at chains.new.entries other ≡ chain_at chains.old.entries other) }
+    ensures ok { OnOk result
+        ((other : List ℕ)
+        → chain_at chains.new.entries other
+        ≡ with_version (is_eq (key_cmp other key.now)) version (option_copied value.entry)
+        (chain_at chains.old.entries other)) }
+    ensures err { OnErr result
+        ((other : List ℕ) → chain_at chains.new.entries other ≡ chain_at chains.old.entries other) }
 {
     let value = copied(value)?;
     if chains.contains_key(key) {
@@ -67,8 +74,12 @@ fn add(
 fn extend(chains: &mut Chains, version: u64, key: &Text, value: Option<Text>) -> Result<(), Memory>
     requires there { IsSome (lookup (λ other. is_eq (key_cmp key.now other)) chains.old.entries) }
     requires below { AreBelow version (chain_at chains.old.entries key.now) }
-    ensures ok { OnOk result ((other : List ℕ) → chain_at chains.new.entries other ≡ with_version (is_eq (key_cmp other key.now)) version value (chain_at chains.old.entries other)) }
-    ensures err { OnErr result ((other : List ℕ) → chain_at chains.new.entries other ≡ chain_at chains.old.entries other) }
+    ensures ok { OnOk result
+        ((other : List ℕ)
+        → chain_at chains.new.entries other
+        ≡ with_version (is_eq (key_cmp other key.now)) version value (chain_at chains.old.entries other)) }
+    ensures err { OnErr result
+        ((other : List ℕ) → chain_at chains.new.entries other ≡ chain_at chains.old.entries other) }
 {
     match chains.get_mut(key) {
         None => Ok(()),
@@ -87,7 +98,10 @@ fn begin(
     value: Option<Text>,
 ) -> Result<(), Memory>
     requires { lookup (λ other. is_eq (key_cmp key.now other)) chains.old.entries ≡ None }
-    ensures ok { OnOk result ((other : List ℕ) → chain_at chains.new.entries other ≡ with_version (is_eq (key_cmp other key.now)) version value (chain_at chains.old.entries other)) }
+    ensures ok { OnOk result
+        ((other : List ℕ)
+        → chain_at chains.new.entries other
+        ≡ with_version (is_eq (key_cmp other key.now)) version value (chain_at chains.old.entries other)) }
     ensures err { OnErr result (chains.new.entries ≡ chains.old.entries) }
 {
     let key = key.try_clone()?;
@@ -104,10 +118,14 @@ pub fn add_all(
     front: u64,
     writes: &WriteSet,
 ) -> Result<(), Memory>
-    requires few { front < 200000 }
+    requires few { front < JOURNAL_ENTRIES }
     requires below { (key : List ℕ) → AreBelow (front + 1) (chain_at chains.old.entries key) }
-    ensures ok { OnOk result ((key : List ℕ) → chain_at chains.new.entries key ≡ chain_at chains.old.entries key ++ written_version (written_value writes.now.writes key) (front + 1)) }
-    ensures err { OnErr result ((key : List ℕ) → chain_at chains.new.entries key ≡ chain_at chains.old.entries key) }
+    ensures ok { OnOk result
+        ((key : List ℕ)
+        → chain_at chains.new.entries key ≡ chain_at chains.old.entries key
+        ++ written_version (written_value writes.now.writes key) (front + 1)) }
+    ensures err { OnErr result
+        ((key : List ℕ) → chain_at chains.new.entries key ≡ chain_at chains.old.entries key) }
 {
     let pushed = push_all(alloc, chains, front, writes.writes.as_slice());
     if pushed.is_err() {
@@ -117,11 +135,17 @@ pub fn add_all(
 }
 
 fn push_all(alloc: Global, chains: &mut Chains, front: u64, writes: &[Write]) -> Result<(), Memory>
-    requires few { front < 200000 }
+    requires few { front < JOURNAL_ENTRIES }
     requires ascending { AreAscending writes.now }
     requires below { (key : List ℕ) → AreBelow (front + 1) (chain_at chains.old.entries key) }
-    ensures ok { OnOk result ((key : List ℕ) → chain_at chains.new.entries key ≡ chain_at chains.old.entries key ++ written_version (written_value writes.now key) (front + 1)) }
-    ensures err { OnErr result ((key : List ℕ) → cut_written (written_value writes.now key) front (chain_at chains.new.entries key) ≡ chain_at chains.old.entries key) }
+    ensures ok { OnOk result
+        ((key : List ℕ)
+        → chain_at chains.new.entries key ≡ chain_at chains.old.entries key
+        ++ written_version (written_value writes.now key) (front + 1)) }
+    ensures err { OnErr result
+        ((key : List ℕ)
+        → cut_written (written_value writes.now key) front (chain_at chains.new.entries key)
+        ≡ chain_at chains.old.entries key) }
 {
     for write in writes {
         add(alloc, chains, front + 1, &write.key, write.value.as_ref())?;
@@ -132,7 +156,9 @@ fn push_all(alloc: Global, chains: &mut Chains, front: u64, writes: &[Write]) ->
 /// Takes out what comes after the front at these keys. It takes no memory, so a commit that runs out of
 /// memory among its keys needs no copy of the chains.
 fn take_back(chains: &mut Chains, front: u64, writes: &[Write])
-    ensures { (key : List ℕ) → chain_at chains.new.entries key ≡ cut_written (written_value writes.now key) front (chain_at chains.old.entries key) }
+    ensures { (key : List ℕ)
+        → chain_at chains.new.entries key
+        ≡ cut_written (written_value writes.now key) front (chain_at chains.old.entries key) }
 {
     for write in writes {
         cut_at(chains, front, &write.key);
@@ -140,7 +166,9 @@ fn take_back(chains: &mut Chains, front: u64, writes: &[Write])
 }
 
 fn cut_at(chains: &mut Chains, front: u64, key: &Text)
-    ensures { (other : List ℕ) → chain_at chains.new.entries other ≡ cut_where (is_eq (key_cmp other key.now)) front (chain_at chains.old.entries other) }
+    ensures { (other : List ℕ)
+        → chain_at chains.new.entries other
+        ≡ cut_where (is_eq (key_cmp other key.now)) front (chain_at chains.old.entries other) }
 {
     match chains.get_mut(key) {
         None => {}

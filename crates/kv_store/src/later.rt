@@ -13,15 +13,17 @@ use crate::chain::VersionChain;
 use crate::chains::Chains;
 use conflict_sets::{EntryLaw, KeyRead, RangeRead, ReadSet, WriteSet, compare, first_conflict};
 use fs_base::Text;
+use fs_base::limits::JOURNAL_ENTRIES;
 use std::collections::btree_map::Range;
 
-/// The first of these entries that wrote something read, by its version, with its first such key. They follow `version`.
+/// The first of these entries that wrote something read, by its version, with its first such key. They follow
+/// `version`.
 pub fn later_in<'a, E: EntryLaw>(
     entries: &'a [E],
     version: u64,
     reads: &ReadSet,
 ) -> Option<(u64, &'a Text)>
-    requires few { version + length entries.now ≤ 200000 }
+    requires few { version + length entries.now ≤ JOURNAL_ENTRIES }
     ensures { option_map (λ p. (p.0, p.1.now)) result ≡ later_from E.writes_of reads.now version entries.now }
 {
     let mut at = version;
@@ -43,13 +45,15 @@ fn held_key<'a>(reads: &ReadSet, writes: &'a WriteSet) -> Option<&'a Text>
     Some(&write.key)
 }
 
-/// The first version after this one that wrote something read, where it comes before `until`, and else `until`.
+/// The first version after this one that wrote something read, where it comes before `until`, and else
+/// `until`.
 ///
 /// It looks at the chains of the keys and ranges read, and at no other. A chain too many would do no harm,
 /// since the key is found among the writes of the entry of that version; one too few would.
 pub fn first_after(chains: &Chains, reads: &ReadSet, version: u64, until: u64) -> u64
     requires { version < until }
-    ensures outside { (key : List ℕ) → reads_hold reads.now key ≡ true → AreOutside version result (chain_at chains.now.entries key) }
+    ensures outside { (key : List ℕ) → reads_hold reads.now key ≡ true
+        → AreOutside version result (chain_at chains.now.entries key) }
     ensures later { version < result }
     ensures until { result ≤ until }
 {
@@ -59,7 +63,8 @@ pub fn first_after(chains: &Chains, reads: &ReadSet, version: u64, until: u64) -
 
 fn after_keys(chains: &Chains, reads: &[KeyRead], version: u64, until: u64) -> u64
     requires { version < until }
-    ensures outside { (key : List ℕ) → list_any (λ read. is_eq (key_cmp key read.key)) reads.now ≡ true → AreOutside version result (chain_at chains.now.entries key) }
+    ensures outside { (key : List ℕ) → list_any (λ read. is_eq (key_cmp key read.key)) reads.now ≡ true
+        → AreOutside version result (chain_at chains.now.entries key) }
     ensures later { version < result }
     ensures until { result ≤ until }
 {
@@ -84,7 +89,8 @@ fn after_key(chains: &Chains, key: &Text, version: u64, until: u64) -> u64
 
 fn after_ranges(chains: &Chains, reads: &[RangeRead], version: u64, until: u64) -> u64
     requires { version < until }
-    ensures outside { (key : List ℕ) → list_any (λ read. range_holds read key) reads.now ≡ true → AreOutside version result (chain_at chains.now.entries key) }
+    ensures outside { (key : List ℕ) → list_any (λ read. range_holds read key) reads.now ≡ true
+        → AreOutside version result (chain_at chains.now.entries key) }
     ensures later { version < result }
     ensures until { result ≤ until }
 {
@@ -98,7 +104,8 @@ fn after_ranges(chains: &Chains, reads: &[RangeRead], version: u64, until: u64) 
 /// A range with as many rows as its limit was read up to its last row, any other up to its end.
 fn after_range(chains: &Chains, read: &RangeRead, version: u64, until: u64) -> u64
     requires { version < until }
-    ensures outside { (key : List ℕ) → range_holds read.now key ≡ true → AreOutside version result (chain_at chains.now.entries key) }
+    ensures outside { (key : List ℕ) → range_holds read.now key ≡ true
+        → AreOutside version result (chain_at chains.now.entries key) }
     ensures later { version < result }
     ensures until { result ≤ until }
 {
@@ -115,7 +122,8 @@ fn after_range(chains: &Chains, read: &RangeRead, version: u64, until: u64) -> u
 /// The same of the keys from `lo` up to, and with, `last`.
 fn after_row(chains: &Chains, lo: &Text, last: &Text, version: u64, until: u64) -> u64
     requires { version < until }
-    ensures outside { (key : List ℕ) → is_ge (key_cmp key lo.now) ≡ true → is_le (key_cmp key last.now) ≡ true → AreOutside version result (chain_at chains.now.entries key) }
+    ensures outside { (key : List ℕ) → is_ge (key_cmp key lo.now) ≡ true → is_le (key_cmp key last.now) ≡ true
+        → AreOutside version result (chain_at chains.now.entries key) }
     ensures later { version < result }
     ensures until { result ≤ until }
 {
@@ -128,7 +136,8 @@ fn after_row(chains: &Chains, lo: &Text, last: &Text, version: u64, until: u64) 
 /// The same of the keys from `lo` up to, and without, `hi`.
 fn before_end(chains: &Chains, lo: &Text, hi: &Text, version: u64, until: u64) -> u64
     requires { version < until }
-    ensures outside { (key : List ℕ) → is_inside lo.now hi.now key ≡ true → AreOutside version result (chain_at chains.now.entries key) }
+    ensures outside { (key : List ℕ) → is_inside lo.now hi.now key ≡ true
+        → AreOutside version result (chain_at chains.now.entries key) }
     ensures later { version < result }
     ensures until { result ≤ until }
 {

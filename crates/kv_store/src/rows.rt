@@ -24,7 +24,8 @@ pub fn between(
     limit: u32,
 ) -> Result<Items<Row>, Memory>
     requires { is_gt (key_cmp lo.now hi.now) ≡ false }
-    ensures rows { IfOk result (λ found. found ≡ rows_between (rows_of version chains.now.entries) lo.now hi.now limit) }
+    ensures rows { IfOk result
+        (λ found. found ≡ rows_between (rows_of version chains.now.entries) lo.now hi.now limit) }
     ensures ordered { OnOk result (IsOrdered (slice_cmp nat_cmp) chains.now) }
 {
     let lo = Text::from_slice(alloc, lo)?;
@@ -52,7 +53,8 @@ fn first_rows(
 
 /// Adds the row of a key, where its last version gives it a value.
 fn add_row(rows: &mut Vec<Row>, key: &Text, last: Option<&Version>) -> Result<(), Memory>
-    ensures { OnOk result (rows.new.items ≡ rows.old.items ++ new_row key.now (value_of (option_copied last.entry))) }
+    ensures { OnOk result
+        (rows.new.items ≡ rows.old.items ++ new_row key.now (value_of (option_copied last.entry))) }
 {
     let Some(last) = last else {
         return Ok(());

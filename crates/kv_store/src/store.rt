@@ -8,13 +8,16 @@ use crate::later::{first_after, later_in};
 use crate::read::got;
 use crate::rows::between;
 use conflict_sets::{EntryLaw, Got, ReadSet, compare};
+use fs_base::limits::JOURNAL_ENTRIES;
 use fs_base::{Config, Items, Memory, Row, Text};
 use std::alloc::Global;
 use std::marker::Model;
 
-/// The opening rows and a journal of entries. The version of an entry is its place, from 1; version 0 is the opening.
+/// The opening rows and a journal of entries. The version of an entry is its place, from 1; version 0 is the
+/// opening.
 ///
-/// It keeps the versions of each key with their values, so that a read is a search in one chain, and a commit looks
+/// It keeps the versions of each key with their values, so that a read is a search in one chain, and a commit
+/// looks
 /// at the chains of what it read.
 /// It keeps at most 200,000 entries. The configuration is remembered for contracts alone.
 #[derive(Drop)]
@@ -32,7 +35,8 @@ impl<E: EntryLaw> Model for KvState<E> {
 
     ghost view = { λ s. record { config = s.config; opening = s.opening; journal = s.journal.items } };
 
-    ghost invariant = { λ s. IsIndexed E.reads_of E.writes_of E.good E.sound (record { config = s.config; opening = s.opening; journal = s.journal.items }) s.chains.entries };
+    ghost invariant = { λ s. IsIndexed E.reads_of E.writes_of E.good E.sound
+        (record { config = s.config; opening = s.opening; journal = s.journal.items }) s.chains.entries };
 }
 
 /// Why a commit was refused.
@@ -73,7 +77,7 @@ impl<E: EntryLaw> KvState<E> {
     /// The number of entries, which is the newest version.
     pub fn front(&self) -> u64
         ensures front { result ≡ length self.now.journal }
-        ensures few { result ≤ 200000 }
+        ensures few { result ≤ JOURNAL_ENTRIES }
     {
         let _opening = &self.opening;
         self.journal.len() as u64
@@ -82,8 +86,9 @@ impl<E: EntryLaw> KvState<E> {
     /// What every store keeps: the rows are good at every version. It does nothing.
     pub fn facts(&self)
         ensures ascending { IsAscending self.now.opening }
-        ensures few { length self.now.journal ≤ 200000 }
-        ensures good { (n : ℕ) → E.good self.now.config (rows_at E.writes_of self.now.opening self.now.journal n) }
+        ensures few { length self.now.journal ≤ JOURNAL_ENTRIES }
+        ensures good { (n : ℕ)
+            → E.good self.now.config (rows_at E.writes_of self.now.opening self.now.journal n) }
         ensures run { IsRun E.reads_of E.writes_of (E.sound self.now.config) self.now.opening self.now.journal }
     {
         let _opening = &self.opening;
@@ -92,7 +97,9 @@ impl<E: EntryLaw> KvState<E> {
     /// The value of a key at a version, with the version that last wrote it.
     pub fn get_at(&self, version: u64, key: &[u8]) -> Result<Got, Memory>
         requires { version ≤ length self.now.journal }
-        ensures value { IfOk result (λ got. got.value ≡ value_at_key (rows_at E.writes_of self.now.opening self.now.journal version) key.now) }
+        ensures value { IfOk result
+            (λ got. got.value
+            ≡ value_at_key (rows_at E.writes_of self.now.opening self.now.journal version) key.now) }
         ensures version { IfOk result (λ got. got.version ≡ last_writer E.writes_of self.now.journal version key.now) }
     {
         let key = Text::from_slice(*self.journal.allocator(), key)?;
@@ -108,7 +115,10 @@ impl<E: EntryLaw> KvState<E> {
         limit: u32,
     ) -> Result<Items<Row>, Memory>
         requires { version ≤ length self.now.journal }
-        ensures { IfOk result (λ rows. rows ≡ rows_between (rows_at E.writes_of self.now.opening self.now.journal version) lo.now hi.now limit) }
+        ensures { IfOk result
+            (λ rows. rows
+            ≡ rows_between (rows_at E.writes_of self.now.opening self.now.journal version) lo.now hi.now
+            limit) }
     {
         let alloc = *self.journal.allocator();
         if compare(lo, hi).is_gt() {
@@ -129,9 +139,11 @@ impl<E: EntryLaw> KvState<E> {
         ensures ok { OnOk result (self.new ≡ record self.old { journal = self.old.journal ++ entry ∷ [] }) }
         ensures version { IfOk result (λ version. version ≡ length self.old.journal + 1) }
         ensures alone { OnOk result (first_later E.writes_of self.old.journal snapshot (E.reads_of entry) ≡ None) }
-        ensures room { OnOk result (length self.old.journal < 200000) }
+        ensures room { OnOk result (length self.old.journal < JOURNAL_ENTRIES) }
         ensures err { IfErr result (λ refused. (self.new ≡ self.old) × (refused.entry ≡ entry)) }
-        ensures cause { IfErr result (λ refused. HasCause (first_later E.writes_of self.old.journal snapshot (E.reads_of entry)) (length self.old.journal) refused.why) }
+        ensures cause { IfErr result
+            (λ refused. HasCause (first_later E.writes_of self.old.journal snapshot (E.reads_of entry))
+            (length self.old.journal) refused.why) }
     {
         if let Some(why) = self.refusal(snapshot, entry.reads()) {
             return Err(Refused { entry, why });
@@ -154,8 +166,10 @@ impl<E: EntryLaw> KvState<E> {
     fn refusal(&self, snapshot: u64, reads: &ReadSet) -> Option<CommitError>
         requires { snapshot ≤ length self.now.journal }
         ensures alone { IfNone result (first_later E.writes_of self.now.journal snapshot reads.now ≡ None) }
-        ensures room { IfNone result (length self.now.journal < 200000) }
-        ensures cause { IfSome result (λ why. HasCause (first_later E.writes_of self.now.journal snapshot reads.now) (length self.now.journal) why) }
+        ensures room { IfNone result (length self.now.journal < JOURNAL_ENTRIES) }
+        ensures cause { IfSome result
+            (λ why. HasCause (first_later E.writes_of self.now.journal snapshot reads.now)
+            (length self.now.journal) why) }
     {
         let place = self.first_touched(snapshot, reads);
         let later = later_in(&self.journal.as_slice()[place as usize..], place, reads);
@@ -164,7 +178,7 @@ impl<E: EntryLaw> KvState<E> {
                 Ok(key) => Some(CommitError::Conflict(version, key)),
                 Err(Memory) => Some(CommitError::Memory),
             },
-            None if self.journal.len() == 200_000 => Some(CommitError::Full),
+            None if self.journal.len() == JOURNAL_ENTRIES => Some(CommitError::Full),
             None => None,
         }
     }
@@ -172,9 +186,10 @@ impl<E: EntryLaw> KvState<E> {
     /// The place of the first entry from `snapshot` on that wrote something read, or the end.
     fn first_touched(&self, snapshot: u64, reads: &ReadSet) -> u64
         requires { snapshot ≤ length self.now.journal }
-        ensures skips { first_later E.writes_of self.now.journal snapshot reads.now ≡ first_later E.writes_of self.now.journal result reads.now }
+        ensures skips { first_later E.writes_of self.now.journal snapshot reads.now
+            ≡ first_later E.writes_of self.now.journal result reads.now }
         ensures within { result ≤ length self.now.journal }
-        ensures few { length self.now.journal ≤ 200000 }
+        ensures few { length self.now.journal ≤ JOURNAL_ENTRIES }
     {
         let next = self.journal.len() as u64 + 1;
         first_after(&self.chains, reads, snapshot, next) - 1

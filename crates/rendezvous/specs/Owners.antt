@@ -31,7 +31,8 @@ IsRising (n ∷ ns) = AreAbove n ns × IsRising ns
 
 -- the first stands higher: its score is greater, or the same at a number that isn't
 abbrev pub Beats : ℕ → ℕ → ℕ → Type 0
-Beats inode first second = (score inode second < score inode first) ⊎ ((score inode second ≡ score inode first) × (first ≤ second))
+Beats inode first second =
+    (score inode second < score inode first) ⊎ ((score inode second ≡ score inode first) × (first ≤ second))
 
 -- one of the servers, which none of them stands above
 pub record IsOwner (inode : ℕ) (servers : List ℕ) (owner : ℕ) : Type 0 where
@@ -40,5 +41,7 @@ pub record IsOwner (inode : ℕ) (servers : List ℕ) (owner : ℕ) : Type 0 whe
 
 -- without a server that stands among them, an inode that it didn't own has the owner that it had
 abbrev pub KeepsOwners : Type 0
-KeepsOwners = (inode gone : ℕ) (before after : List ℕ) → IsRising (before ++ gone ∷ after) → owner_of inode (before ++ gone ∷ after) ≢ gone
+KeepsOwners =
+    (inode gone : ℕ) (before after : List ℕ) → IsRising (before ++ gone ∷ after)
+    → owner_of inode (before ++ gone ∷ after) ≢ gone
     → owner_of inode (before ++ after) ≡ owner_of inode (before ++ gone ∷ after)

@@ -48,7 +48,8 @@ fn higher(inode: InodeId, first: u8, second: u8) -> u8
     }
 }
 
-/// Taking one server out changes the owner only of what that server owned. It does nothing; its contract is the law.
+/// Taking one server out changes the owner only of what that server owned. It does nothing; its contract is
+/// the law.
 pub fn owners_stay()
     ensures { KeepsOwners }
 {}

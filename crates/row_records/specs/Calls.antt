@@ -14,11 +14,14 @@ unfoldable pub place : Form Place
 place = shaped (paired inode_id text) (λ (b, t). record { base = b; text = t }) (λ p. (p.base, p.text))
 
 unfoldable pub session : Form Session
-session = shaped (paired inode_id number_8) (λ (id, n). record { inode = id; number = n }) (λ s. (s.inode, s.number))
+session =
+    shaped (paired inode_id number_8) (λ (id, n). record { inode = id; number = n })
+    (λ s. (s.inode, s.number))
 
 -- any chunk and stripe: `BadLayout` answers the call where they are out of range
 unfoldable pub default_layout : Form DefaultLayout
-default_layout = shaped (paired number_4 number_2) (λ (c, t). record { chunk = c; stripe = t }) (λ l. (l.chunk, l.stripe))
+default_layout =
+    shaped (paired number_4 number_2) (λ (c, t). record { chunk = c; stripe = t }) (λ l. (l.chunk, l.stripe))
 
 unfoldable pub made : Form (Place × (ℕ × Option DefaultLayout))
 made = paired place (paired mode (optional default_layout))
@@ -26,7 +29,9 @@ made = paired place (paired mode (optional default_layout))
 -- what `setattr` sets
 unfoldable pub changes : Form Changes
 changes =
-    shaped (paired (optional mode) (paired (optional number_4) (paired (optional number_4) (paired (optional time) (optional time))))) (λ (m, (o, (g, (a, w)))). record { mode = m; owner = o; group = g; atime = a; mtime = w })
+    shaped (paired (optional mode)
+    (paired (optional number_4) (paired (optional number_4) (paired (optional time) (optional time)))))
+    (λ (m, (o, (g, (a, w)))). record { mode = m; owner = o; group = g; atime = a; mtime = w })
     (λ c. (c.mode, (c.owner, (c.group, (c.atime, c.mtime)))))
 
 -- each client above the one before it
@@ -60,21 +65,24 @@ written_call (calls.Rmdir p) = tagged 14 place p
 written_call (calls.Rename p q) = tagged 15 (paired place place) (p, q)
 written_call (calls.Open p) = tagged 16 place p
 written_call (calls.Extend s at) = tagged 17 (paired session number_2) (s, at)
-written_call (calls.Report s end truncs) = tagged 18 (paired session (paired number_8 number_4)) (s, (end, truncs))
+written_call (calls.Report s end truncs) =
+    tagged 18 (paired session (paired number_8 number_4)) (s, (end, truncs))
 written_call (calls.Fsync s) = tagged 19 session s
 written_call (calls.Close s) = tagged 20 session s
 written_call (calls.Truncate s length) = tagged 21 (paired session number_8) (s, length)
 written_call (calls.Purge id) = tagged 22 inode_id id
 written_call (calls.Reap id) = tagged 23 inode_id id
 written_call (calls.Prune living) = tagged 24 clients living
-written_call (calls.Write s offset len fill) = tagged 25 (paired session (paired span number_1)) (s, ((offset, len), fill))
+written_call (calls.Write s offset len fill) =
+    tagged 25 (paired session (paired span number_1)) (s, ((offset, len), fill))
 written_call (calls.Read id offset len) = tagged 26 (paired inode_id span) (id, (offset, len))
 written_call calls.Sweep = tagged 27 nothing tt
 
 -- how each tag reads
 unfoldable pub moving_arms : List (Arm Call)
 moving_arms =
-    arm 25 (paired session (paired span number_1)) (λ (s, ((offset, len), fill)). calls.Write s offset len fill)
+    arm 25 (paired session (paired span number_1))
+    (λ (s, ((offset, len), fill)). calls.Write s offset len fill)
     ∷ arm 26 (paired inode_id span) (λ (id, (offset, len)). calls.Read id offset len)
     ∷ arm 27 nothing (λ x. calls.Sweep)
     ∷ []
@@ -130,7 +138,8 @@ call = choice number_1 written_call query_arms
 unfoldable pub stamped_call : Form (ℕ × Call)
 stamped_call = paired time call
 
--- the bytes of a call with its stamp; whether they may be spelled; and what bytes spell, or the place where they don't
+-- the bytes of a call with its stamp; whether they may be spelled; and what bytes spell, or the place where
+-- they don't
 abbrev pub spelled_call : ℕ × Call → List ℕ
 spelled_call = stamped_call.spelled
 

@@ -31,11 +31,27 @@ three_times = paired time (paired time time)
 unfoldable pub attributes : Form Attributes
 attributes =
     shaped (paired identity (paired ownership (paired three_times number_8)))
-    (λ ((id, (k, m)), ((o, (g, l)), ((a, (w, c)), s))). record { inode = id; kind = k; mode = m; owner = o; group = g; links = l; atime = a; mtime = w; ctime = c; length = s })
-    (λ t. ((t.inode, (t.kind, t.mode)), ((t.owner, (t.group, t.links)), ((t.atime, (t.mtime, t.ctime)), t.length))))
+    (λ ((id, (k, m)), ((o, (g, l)), ((a, (w, c)), s))). record {
+      inode = id;
+      kind = k;
+      mode = m;
+      owner = o;
+      group = g;
+      links = l;
+      atime = a;
+      mtime = w;
+      ctime = c;
+      length = s;
+    })
+    (λ t. (
+      (t.inode, (t.kind, t.mode)),
+      ((t.owner, (t.group, t.links)), ((t.atime, (t.mtime, t.ctime)), t.length)),
+    ))
 
 unfoldable pub entry : Form DirEntry
-entry = shaped (paired text (paired inode_id kind)) (λ (n, (id, k)). record { name = n; inode = id; kind = k }) (λ e. (e.name, (e.inode, e.kind)))
+entry =
+    shaped (paired text (paired inode_id kind)) (λ (n, (id, k)). record { name = n; inode = id; kind = k })
+    (λ e. (e.name, (e.inode, e.kind)))
 
 unfoldable pub names : Form (List DirEntry)
 names = listed number_8 entry anywhere
@@ -46,7 +62,8 @@ told_layout = layout_of number_4 number_2 number_2 number_8
 
 unfoldable pub file_info : Form FileInfo
 file_info =
-    shaped (paired inode_id (paired number_8 (paired number_4 (paired told_layout number_2)))) (λ (id, (s, (t, (l, h)))). record { inode = id; length = s; truncs = t; layout = l; hint = h })
+    shaped (paired inode_id (paired number_8 (paired number_4 (paired told_layout number_2))))
+    (λ (id, (s, (t, (l, h)))). record { inode = id; length = s; truncs = t; layout = l; hint = h })
     (λ f. (f.inode, (f.length, (f.truncs, (f.layout, f.hint)))))
 
 -- 0 for no, 1 for yes
@@ -71,13 +88,16 @@ unfoldable pub phase : Form DeletionPhase
 phase = choice number_1 written_phase phase_arms
 
 unfoldable pub doomed_inode : Form DoomedInode
-doomed_inode = shaped (paired inode_id phase) (λ (id, p). record { inode = id; phase = p }) (λ d. (d.inode, d.phase))
+doomed_inode =
+    shaped (paired inode_id phase) (λ (id, p). record { inode = id; phase = p }) (λ d. (d.inode, d.phase))
 
 unfoldable pub doomed : Form (List DoomedInode)
 doomed = listed number_8 doomed_inode anywhere
 
 unfoldable pub data_run : Form DataRun
-data_run = shaped (paired number_8 (paired number_8 number_1)) (λ (o, (n, b)). record { offset = o; len = n; fill = b }) (λ r. (r.offset, (r.len, r.fill)))
+data_run =
+    shaped (paired number_8 (paired number_8 number_1))
+    (λ (o, (n, b)). record { offset = o; len = n; fill = b }) (λ r. (r.offset, (r.len, r.fill)))
 
 unfoldable pub data_runs : Form (List DataRun)
 data_runs = listed number_8 data_run anywhere
@@ -88,7 +108,9 @@ written_limit limits.Links = tagged 2 nothing tt
 written_limit limits.Truncations = tagged 3 nothing tt
 
 abbrev pub limit_arms : List (Arm Limit)
-limit_arms = arm 1 nothing (λ x. limits.Inodes) ∷ arm 2 nothing (λ x. limits.Links) ∷ arm 3 nothing (λ x. limits.Truncations) ∷ []
+limit_arms =
+    arm 1 nothing (λ x. limits.Inodes) ∷ arm 2 nothing (λ x. limits.Links)
+    ∷ arm 3 nothing (λ x. limits.Truncations) ∷ []
 
 unfoldable pub limit : Form Limit
 limit = choice number_1 written_limit limit_arms
@@ -150,7 +172,8 @@ code_arms =
     ∷ arm 85 nothing (λ x. replies.Refused codes.Conflict)
     ∷ arm 86 nothing (λ x. replies.Refused codes.StoreFull)
     ∷ arm 87 (paired number_1 number_8) (λ (node, written). replies.Refused (codes.NodeFull node written))
-    ∷ arm 88 (paired number_8 number_8) (λ (version, written). replies.Refused (codes.Removed version written))
+    ∷ arm 88 (paired number_8 number_8)
+    (λ (version, written). replies.Refused (codes.Removed version written))
     ∷ []
 
 unfoldable pub inode_arms : List (Arm Reply)
@@ -208,7 +231,8 @@ found_arms =
 unfoldable pub reply : Form Reply
 reply = choice number_1 written_reply found_arms
 
--- the bytes of a reply; whether it may be spelled; and the reply that bytes spell, or the place where they don't
+-- the bytes of a reply; whether it may be spelled; and the reply that bytes spell, or the place where they
+-- don't
 abbrev pub spelled_reply : Reply → List ℕ
 spelled_reply = reply.spelled
 

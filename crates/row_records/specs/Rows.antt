@@ -12,7 +12,9 @@ use Rattle.row_records.specs.Replies.{reply}
 
 -- an entry: the inode, and its kind
 unfoldable pub dent : Form DentRow
-dent = versioned (shaped (paired inode_id kind) (λ (id, k). record { inode = id; kind = k }) (λ r. (r.inode, r.kind)))
+dent =
+    versioned (shaped (paired inode_id kind) (λ (id, k). record { inode = id; kind = k })
+    (λ r. (r.inode, r.kind)))
 
 -- a write session: when it was opened
 unfoldable pub session_row : Form SessionRow
@@ -20,7 +22,9 @@ session_row = versioned (shaped time (λ s. record { stamp = s }) (λ r. r.stamp
 
 -- a client's kept reply: the number of its request, and the reply
 unfoldable pub kept : Form KeptRow
-kept = versioned (shaped (paired (within number_8 1 (2 ^ 64 - 1)) reply) (λ (n, r). record { number = n; reply = r }) (λ k. (k.number, k.reply)))
+kept =
+    versioned (shaped (paired (within number_8 1 (2 ^ 64 - 1)) reply)
+    (λ (n, r). record { number = n; reply = r }) (λ k. (k.number, k.reply)))
 
 -- a server's next inode number
 unfoldable pub alloc_row : Form AllocRow
@@ -32,7 +36,9 @@ written_gc gc_rows.Waiting = tagged 0 nothing tt
 written_gc (gc_rows.Purged layout hint) = tagged 1 used_layout (layout, hint)
 
 abbrev pub gc_arms : List (Arm GcRow)
-gc_arms = arm 0 nothing (λ x. gc_rows.Waiting) ∷ arm 1 used_layout (λ (layout, hint). gc_rows.Purged layout hint) ∷ []
+gc_arms =
+    arm 0 nothing (λ x. gc_rows.Waiting) ∷ arm 1 used_layout (λ (layout, hint). gc_rows.Purged layout hint)
+    ∷ []
 
 unfoldable pub by_phase : Form GcRow
 by_phase = choice number_1 written_gc gc_arms
@@ -40,7 +46,8 @@ by_phase = choice number_1 written_gc gc_arms
 unfoldable pub gc : Form GcRow
 gc = versioned by_phase
 
--- for each row: its bytes; whether it may be spelled; and the row that bytes spell, or the place where they don't
+-- for each row: its bytes; whether it may be spelled; and the row that bytes spell, or the place where they
+-- don't
 abbrev pub spelled_dent : DentRow → List ℕ
 spelled_dent = dent.spelled
 

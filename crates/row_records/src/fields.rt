@@ -273,7 +273,8 @@ pub(crate) fn attributes(cursor: &mut Cursor) -> Result<Attributes, FieldError>
 
 #[tactic(auto, unfolding(crate::specs::Replies::identity))]
 fn put_identity(writer: &mut Writer, value: &Attributes) -> Result<(), Memory>
-    ensures { OnOk result (writer.new ≡ writer.old ++ identity.spelled (value.now.inode, (value.now.kind, value.now.mode))) }
+    ensures { OnOk result
+        (writer.new ≡ writer.old ++ identity.spelled (value.now.inode, (value.now.kind, value.now.mode))) }
 {
     writer.inode_id(value.inode)?;
     writer.kind(value.kind)?;
@@ -282,7 +283,8 @@ fn put_identity(writer: &mut Writer, value: &Attributes) -> Result<(), Memory>
 
 #[tactic(auto, unfolding(crate::specs::Replies::ownership))]
 fn put_ownership(writer: &mut Writer, value: &Attributes) -> Result<(), Memory>
-    ensures { OnOk result (writer.new ≡ writer.old ++ ownership.spelled (value.now.owner, (value.now.group, value.now.links))) }
+    ensures { OnOk result
+        (writer.new ≡ writer.old ++ ownership.spelled (value.now.owner, (value.now.group, value.now.links))) }
 {
     writer.u32(value.owner)?;
     writer.u32(value.group)?;
@@ -291,7 +293,8 @@ fn put_ownership(writer: &mut Writer, value: &Attributes) -> Result<(), Memory>
 
 #[tactic(auto, unfolding(crate::specs::Replies::three_times))]
 fn put_three_times(writer: &mut Writer, value: &Attributes) -> Result<(), Memory>
-    ensures { OnOk result (writer.new ≡ writer.old ++ three_times.spelled (value.now.atime, (value.now.mtime, value.now.ctime))) }
+    ensures { OnOk result
+        (writer.new ≡ writer.old ++ three_times.spelled (value.now.atime, (value.now.mtime, value.now.ctime))) }
 {
     writer.time(value.atime)?;
     writer.time(value.mtime)?;

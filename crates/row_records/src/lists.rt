@@ -41,7 +41,8 @@ pub(crate) fn names(alloc: Global, cursor: &mut Cursor) -> Result<Items<DirEntry
 }
 
 fn names_of(alloc: Global, cursor: &mut Cursor, count: u64) -> Result<Items<DirEntry>, FieldError>
-    ensures { Gives left_of (λ items. (items, cursor.new)) result (reads_items entry anywhere None count cursor.old) }
+    ensures { Gives left_of (λ items. (items, cursor.new)) result
+        (reads_items entry anywhere None count cursor.old) }
 {
     let mut items = Items::new(alloc);
     for _ in 0..count {
@@ -98,7 +99,8 @@ fn doomed_of(
     cursor: &mut Cursor,
     count: u64,
 ) -> Result<Items<DoomedInode>, FieldError>
-    ensures { Gives left_of (λ items. (items, cursor.new)) result (reads_items doomed_inode anywhere None count cursor.old) }
+    ensures { Gives left_of (λ items. (items, cursor.new)) result
+        (reads_items doomed_inode anywhere None count cursor.old) }
 {
     let mut items = Items::new(alloc);
     for _ in 0..count {
@@ -157,7 +159,8 @@ fn data_runs_of(
     cursor: &mut Cursor,
     count: u64,
 ) -> Result<Items<DataRun>, FieldError>
-    ensures { Gives left_of (λ items. (items, cursor.new)) result (reads_items data_run anywhere None count cursor.old) }
+    ensures { Gives left_of (λ items. (items, cursor.new)) result
+        (reads_items data_run anywhere None count cursor.old) }
 {
     let mut items = Items::new(alloc);
     for _ in 0..count {
@@ -194,7 +197,8 @@ pub(crate) fn clients(alloc: Global, cursor: &mut Cursor) -> Result<Items<Client
 }
 
 fn clients_of(alloc: Global, cursor: &mut Cursor, count: u64) -> Result<Items<ClientId>, FieldError>
-    ensures { Gives left_of (λ items. (items, cursor.new)) result (reads_items client ascends None count cursor.old) }
+    ensures { Gives left_of (λ items. (items, cursor.new)) result
+        (reads_items client ascends None count cursor.old) }
 {
     let mut items = Items::new(alloc);
     let mut before: Option<ClientId> = None;

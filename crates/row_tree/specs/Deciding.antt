@@ -63,7 +63,8 @@ abbrev pub AreCounts : TypedRows → FinMap nat_cmp ℕ → Type 0
 AreCounts S counts = (id : ℕ) → unwrap_or (get counts id) 0 ≡ entries_to S id
 
 abbrev pub is_linked : TypedRows → ℕ → InodeRow → Bool
-is_linked S id row = is_given S id && ((row.links == entries_to S id) && counts_fit S id (kind_of row.part) row.links)
+is_linked S id row =
+    is_given S id && ((row.links == entries_to S id) && counts_fit S id (kind_of row.part) row.links)
 
 abbrev pub linked_test : TypedRows → Bool
 linked_test S = all_pass (λ id row. (id == 0) || is_linked S id row) S.inodes
@@ -71,7 +72,9 @@ linked_test S = all_pass (λ id row. (id == 0) || is_linked S id row) S.inodes
 -- ---- layouts
 
 abbrev pub is_layout : Settings → ℕ → Layout → Bool
-is_layout C id layout = admits C (record { chunk = layout.chunk; stripe = layout.stripe }) && ((layout.start == id % C.chains) && (layout.mix == id))
+is_layout C id layout =
+    admits C (record { chunk = layout.chunk; stripe = layout.stripe })
+    && ((layout.start == id % C.chains) && (layout.mix == id))
 
 abbrev pub is_used : Settings → ℕ → Layout → ℕ → Bool
 is_used C id layout hint = is_layout C id layout && (nat_le 1 hint && nat_le hint layout.stripe)
@@ -96,15 +99,18 @@ climbs S zero id = id == 0
 climbs S (suc left) id = (id == 0) || goes_up (climbs S left) (parent_at S id)
 
 abbrev pub leads_test : TypedRows → Bool
-leads_test S = all_pass (λ id row. not (is_kind (kind_of row.part) kinds.Dir) || climbs S (len S.inodes) id) S.inodes
+leads_test S =
+    all_pass (λ id row. not (is_kind (kind_of row.part) kinds.Dir) || climbs S (len S.inodes) id) S.inodes
 
 -- ---- entries, doomed inodes, sessions and next numbers
 
 abbrev pub is_inside : TypedRows → ℕ → DentRow → Bool
-is_inside S dir e = not (is_kind e.kind kinds.Dir) || some_passes (λ parent. parent == dir) (parent_at S e.inode)
+is_inside S dir e =
+    not (is_kind e.kind kinds.Dir) || some_passes (λ parent. parent == dir) (parent_at S e.inode)
 
 abbrev pub is_entry : TypedRows → ℕ → DentRow → Bool
-is_entry S dir e = has_kind S dir kinds.Dir && (has_kind S e.inode e.kind && (not (e.inode == 0) && is_inside S dir e))
+is_entry S dir e =
+    has_kind S dir kinds.Dir && (has_kind S e.inode e.kind && (not (e.inode == 0) && is_inside S dir e))
 
 abbrev pub entry_test : TypedRows → Bool
 entry_test S = all_pass (λ (key : ℕ × List ℕ) e. is_entry S key.0 e) S.dents
@@ -132,4 +138,6 @@ numbers_test S = all_pass number_test S.next
 
 abbrev pub rows_test : Settings → TypedRows → Bool
 rows_test C S =
-    root_test S && (linked_test S && (fits_test C S && (leads_test S && (entry_test S && (doomed_test C S && (session_test S && numbers_test S))))))
+    root_test S && (linked_test S
+    && (fits_test C S
+    && (leads_test S && (entry_test S && (doomed_test C S && (session_test S && numbers_test S))))))

@@ -4,6 +4,7 @@ use Rattle.std.specs.FinMap.{get}
 use Rattle.byte_fields.specs.Fields.{path_text}
 use Rattle.fs_base.specs.Config.{Settings, admits, layout_at}
 use Rattle.fs_base.specs.declared.layout.DefaultLayout.{DefaultLayout}
+use Rattle.fs_base.specs.declared.limits.TheConstants.{CHAINS, INODE_IDS, MODES, TIMES}
 use Rattle.inode_record.specs.declared.inode.InodePart.{InodePart}
 use Rattle.inode_record.specs.declared.inode.InodePart.TheVariants as parts
 use Rattle.inode_record.specs.declared.inode.InodeRow.{InodeRow}
@@ -46,16 +47,17 @@ IsPart (new.Link target) = IsTrue (path_text.fits target)
 
 -- what a new row is made of, each in its range
 pub record IsNewRow (C : Settings) (node : NewNode) (stamp id dir : ℕ) (layout : DefaultLayout) : Type 0 where
-  pub mode_small : node.mode < 4096
-  pub stamp_small : stamp < 2 ^ 53
+  pub mode_small : node.mode < MODES
+  pub stamp_small : stamp < TIMES
   pub part_is : IsPart node.part
-  pub id_small : id < 2 ^ 36
-  pub dir_small : dir < 2 ^ 36
+  pub id_small : id < INODE_IDS
+  pub dir_small : dir < INODE_IDS
   pub admitted : IsTrue (admits C layout)
-  pub few_chains : C.chains ≤ 256
+  pub few_chains : C.chains ≤ CHAINS
 
 -- a free name of a directory with this default, where the server's next number is this
-pub record IsRoom (S : TypedRows) (server dir : ℕ) (name : List ℕ) (default : DefaultLayout) (number : ℕ) : Type 0 where
+pub record IsRoom (S : TypedRows) (server dir : ℕ) (name : List ℕ) (default : DefaultLayout)
+    (number : ℕ) : Type 0 where
   pub parent : ℕ
   pub row : InodeRow
   pub there : get S.inodes dir ≡ Some row

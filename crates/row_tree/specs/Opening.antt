@@ -3,6 +3,7 @@ use Rattle.std.specs.Prelude.{ℕ, ◌≤◌, List, [], ◌∷◌}
 use Rattle.std.specs.FinMap.{empty, insert}
 use Rattle.fs_base.specs.Config.{Settings}
 use Rattle.fs_base.specs.declared.row.Row.{Row}
+use Rattle.fs_base.specs.declared.limits.TheConstants.{CHAINS, CHUNK_BYTES}
 use Rattle.inode_record.specs.Inode.{spelled_inode}
 use Rattle.inode_record.specs.declared.inode.InodePart.TheVariants as parts
 use Rattle.inode_record.specs.declared.inode.InodeRow.{InodeRow}
@@ -29,7 +30,15 @@ abbrev pub root_row : Settings → InodeRow
 root_row C = root_with C.chunk C.stripe
 
 abbrev pub opening_rows : Settings → TypedRows
-opening_rows C = record { inodes = insert empty 0 (root_row C); dents = empty; sessions = empty; kept = empty; doomed = empty; next = empty }
+opening_rows C =
+    record {
+      inodes = insert empty 0 (root_row C);
+      dents = empty;
+      sessions = empty;
+      kept = empty;
+      doomed = empty;
+      next = empty;
+    }
 
 -- the same as bytes
 abbrev pub opening_bytes : Settings → List Row
@@ -37,8 +46,8 @@ opening_bytes C = record { key = spelled_key (keys.Inode 0); value = spelled_ino
 
 -- the limits that the root's row needs
 pub record HasLimits (C : Settings) : Type 0 where
-  pub chains_to : C.chains ≤ 256
+  pub chains_to : C.chains ≤ CHAINS
   pub chunk_from : 1 ≤ C.chunk
-  pub chunk_to : C.chunk ≤ 4194304
+  pub chunk_to : C.chunk ≤ CHUNK_BYTES
   pub stripe_from : 1 ≤ C.stripe
   pub stripe_to : C.stripe ≤ C.chains

@@ -10,7 +10,8 @@ use Rattle.row_tree.specs.Values.{Value, spelled_value}
 
 -- the value that these bytes spell is put at the key
 abbrev pub Puts : TypedRows → TypedRows → Key → List ℕ → Type 0
-Puts old new key bytes = (v : Value) × IsValueOf key (Some v) × (spelled_value v ≡ bytes) × (new ≡ write old key (Some v))
+Puts old new key bytes =
+    (v : Value) × IsValueOf key (Some v) × (spelled_value v ≡ bytes) × (new ≡ write old key (Some v))
 
 -- the bytes spell no value of the key's form
 abbrev pub HasNoValue : Key → List ℕ → Type 0

@@ -3,6 +3,7 @@ use Rattle.std.specs.Prelude.{◌≡◌, ℕ, ◌<◌, ◌^◌, List, [], ◌∷
 use Rattle.std.specs.Option.{option_map}
 use Rattle.conflict_sets.specs.Rows.{value_at_key}
 use Rattle.fs_base.specs.declared.row.Row.{Row}
+use Rattle.fs_base.specs.declared.limits.TheConstants.{INODE_IDS}
 use Rattle.key_schema.specs.Keys.{spelled_key, IsValidKey}
 use Rattle.key_schema.specs.declared.key.Key.{Key}
 use Rattle.key_schema.specs.declared.key.Key.TheVariants as keys
@@ -13,7 +14,9 @@ use Rattle.row_tree.specs.Values.{Value, DentValue, GcValue, spelled_value, IsVa
 
 -- within one form of row no two values have one spelling
 abbrev pub OneValueEach : Type 0
-OneValueEach = (k : Key) (v w : Value) → of_form k v ≡ Some v → of_form k w ≡ Some w → IsValue v → IsValue w → spelled_value v ≡ spelled_value w → v ≡ w
+OneValueEach =
+    (k : Key) (v w : Value) → of_form k v ≡ Some v → of_form k w ≡ Some w → IsValue v → IsValue w
+    → spelled_value v ≡ spelled_value w → v ≡ w
 
 -- the bytes spell these rows and nothing else, and the rows have valid keys and values alone
 pub record Spells (R : List Row) (S : TypedRows) : Type 0 where
@@ -36,4 +39,4 @@ spelled_gc e = record { key = spelled_key (keys.Gc e.0); value = spelled_value (
 
 abbrev pub AreGcRows : List (ℕ × GcRow) → Type 0
 AreGcRows [] = Unit {0}
-AreGcRows (e ∷ es) = ((e.0 < 2 ^ 36) × IsValue (GcValue e.1)) × AreGcRows es
+AreGcRows (e ∷ es) = ((e.0 < INODE_IDS) × IsValue (GcValue e.1)) × AreGcRows es

@@ -4,6 +4,7 @@ use Rattle.std.specs.Ordering.{nat_cmp}
 use Rattle.std.specs.FinMap.{FinMap, get, insert, remove}
 use Rattle.fs_base.specs.Config.{Settings}
 use Rattle.fs_base.specs.declared.kind.Kind.TheVariants as kinds
+use Rattle.fs_base.specs.declared.limits.TheConstants.{SERVERS}
 use Rattle.inode_record.specs.declared.inode.InodePart.{InodePart}
 use Rattle.inode_record.specs.declared.inode.InodePart.TheVariants as parts
 use Rattle.inode_record.specs.declared.inode.InodeRow.{InodeRow}
@@ -33,14 +34,15 @@ with_node S server dir name row =
     }
 
 -- by one of 16 servers, which has a number left; under a free name of a directory, with the one entry
-pub record MayAdd (C : Settings) (S : TypedRows) (server dir : ℕ) (name : List ℕ) (row : InodeRow) : Type 0 where
-  pub in_range : server < 16
-  pub room : next_at S.next server + 1 < 2 ^ 32
-  pub parent : HasKind S dir kinds.Dir
-  pub free : get S.dents (dir, name) ≡ None
-  pub one : row.links ≡ 1
-  pub fits : FitsConfig C (next_id S server) row.part
-  pub inside : kind_of row.part ≡ kinds.Dir → parent_of row.part ≡ Some dir
+pub record MayAdd (C : Settings) (S : TypedRows) (server dir : ℕ) (name : List ℕ) (row : InodeRow) : Type 0
+  where
+    pub in_range : server < SERVERS
+    pub room : next_at S.next server + 1 < 2 ^ 32
+    pub parent : HasKind S dir kinds.Dir
+    pub free : get S.dents (dir, name) ≡ None
+    pub one : row.links ≡ 1
+    pub fits : FitsConfig C (next_id S server) row.part
+    pub inside : kind_of row.part ≡ kinds.Dir → parent_of row.part ≡ Some dir
 
 -- ---- fields of an inode's row changed
 
@@ -72,20 +74,26 @@ abbrev pub recounted : ℕ → ℕ → InodeRow → InodeRow
 recounted stamp links row = record row { links = links; ctime = stamp }
 
 -- another entry of a node, or none, at a name; the node's row, and the rows of deletion
-abbrev pub with_entry : TypedRows → ℕ → List ℕ → Option DentRow → ℕ → InodeRow → FinMap nat_cmp GcRow → TypedRows
-with_entry S dir name entry id row doomed = record S { inodes = insert S.inodes id row; dents = set S.dents (dir, name) entry; doomed = doomed }
+abbrev pub with_entry : TypedRows → ℕ → List ℕ → Option DentRow → ℕ → InodeRow → FinMap nat_cmp GcRow
+    → TypedRows
+with_entry S dir name entry id row doomed =
+    record S { inodes = insert S.inodes id row; dents = set S.dents (dir, name) entry; doomed = doomed }
 
--- what stood at the name and what stands there lead to the node, no directory, whose row counts one as the other;
+-- what stood at the name and what stands there lead to the node, no directory, whose row counts one as the
+-- other;
 -- a file that has lost its last entry waits
-pub record MayRelink (S : TypedRows) (dir : ℕ) (name : List ℕ) (entry : Option DentRow) (id : ℕ) (old row : InodeRow) (doomed : FinMap nat_cmp GcRow) : Type 0 where
+pub record MayRelink (S : TypedRows) (dir : ℕ) (name : List ℕ) (entry : Option DentRow) (id : ℕ)
+    (old row : InodeRow) (doomed : FinMap nat_cmp GcRow) : Type 0 where
   pub there : get S.inodes id ≡ Some old
   pub linked : 1 ≤ old.links
   pub no_dir : kind_of old.part ≢ kinds.Dir
   pub part : row.part ≡ old.part
   pub was : (e : DentRow) → get S.dents (dir, name) ≡ Some e → e.inode ≡ id
-  pub is : (e : DentRow) → entry ≡ Some e → (e.inode ≡ id) × (e.kind ≡ kind_of old.part) × HasKind S dir kinds.Dir
+  pub is : (e : DentRow) → entry ≡ Some e → (e.inode ≡ id) × (e.kind ≡ kind_of old.part)
+      × HasKind S dir kinds.Dir
   pub count : count_if (get S.dents (dir, name)) + row.links ≡ old.links + count_if entry
-  pub fate : ((1 ≤ row.links) × (doomed ≡ S.doomed)) ⊎ ((row.links ≡ 0) × (kind_of old.part ≡ kinds.File) × (doomed ≡ insert S.doomed id Waiting))
+  pub fate : ((1 ≤ row.links) × (doomed ≡ S.doomed))
+      ⊎ ((row.links ≡ 0) × (kind_of old.part ≡ kinds.File) × (doomed ≡ insert S.doomed id Waiting))
 
 -- ---- a node taken away with its only entry
 
@@ -113,10 +121,12 @@ under parent row = record row { part = reparented parent row.part }
 -- from a directory up to the root, along these ids, none of which is the given one
 abbrev pub IsPathAround : TypedRows → ℕ → ℕ → List ℕ → Type 0
 IsPathAround S id dir [] = (dir ≢ id) × (dir ≡ 0)
-IsPathAround S id dir (parent ∷ path) = (dir ≢ id) × (parent_at S dir ≡ Some parent) × IsPathAround S id parent path
+IsPathAround S id dir (parent ∷ path) =
+    (dir ≢ id) × (parent_at S dir ≡ Some parent) × IsPathAround S id parent path
 
 -- an entry and its node's row, to a free name of a directory, which for a directory doesn't lie below it
-pub record MayMove (S : TypedRows) (dir : ℕ) (name : List ℕ) (e : DentRow) (row : InodeRow) (to : ℕ) (new : List ℕ) : Type 0 where
+pub record MayMove (S : TypedRows) (dir : ℕ) (name : List ℕ) (e : DentRow) (row : InodeRow) (to : ℕ)
+    (new : List ℕ) : Type 0 where
   pub entry : get S.dents (dir, name) ≡ Some e
   pub there : get S.inodes e.inode ≡ Some row
   pub parent : HasKind S to kinds.Dir
@@ -124,4 +134,9 @@ pub record MayMove (S : TypedRows) (dir : ℕ) (name : List ℕ) (e : DentRow) (
   pub around : e.kind ≡ kinds.Dir → (path : List ℕ) × IsPathAround S e.inode to path
 
 abbrev pub with_move : TypedRows → ℕ → List ℕ → DentRow → InodeRow → ℕ → List ℕ → TypedRows
-with_move S dir name e row to new = record S { inodes = insert S.inodes e.inode (under to row); dents = insert (remove S.dents (dir, name)) (to, new) e }
+with_move S dir name e row to new =
+    record S {
+      inodes = insert S.inodes e.inode (under to row);
+      dents = insert (remove S.dents (dir, name))
+          (to, new) e;
+    }

@@ -23,7 +23,16 @@ node_part (parts.File length truncs layout hint) = nodes.File length truncs layo
 node_part (parts.Link target) = nodes.Link target
 
 abbrev pub node_of : InodeRow → Node
-node_of row = record { mode = row.mode; owner = row.owner; group = row.group; atime = row.atime; mtime = row.mtime; ctime = row.ctime; part = node_part row.part }
+node_of row =
+    record {
+      mode = row.mode;
+      owner = row.owner;
+      group = row.group;
+      atime = row.atime;
+      mtime = row.mtime;
+      ctime = row.ctime;
+      part = node_part row.part;
+    }
 
 abbrev pub kept_of : KeptRow → KeptReply
 kept_of row = record { number = row.number; reply = row.reply }

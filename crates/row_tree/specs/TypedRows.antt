@@ -34,7 +34,8 @@ pub record TypedRows : Type 0 where
   pub next : FinMap nat_cmp ℕ
 
 abbrev pub no_rows : TypedRows
-no_rows = record { inodes = empty; dents = empty; sessions = empty; kept = empty; doomed = empty; next = empty }
+no_rows =
+    record { inodes = empty; dents = empty; sessions = empty; kept = empty; doomed = empty; next = empty }
 
 -- what stands at a key
 abbrev pub lookup : TypedRows → Key → Option Value
@@ -43,7 +44,8 @@ lookup S (keys.Dent dir name) = option_map DentValue (get S.dents (dir, name))
 lookup S (keys.Gc id) = option_map GcValue (get S.doomed id)
 lookup S (keys.Idem client) = option_map KeptValue (get S.kept client.0)
 lookup S (keys.Inode id) = option_map InodeValue (get S.inodes id)
-lookup S (keys.Session inode client number) = option_map SessionValue (get S.sessions (inode, (client.0, number)))
+lookup S (keys.Session inode client number) =
+    option_map SessionValue (get S.sessions (inode, (client.0, number)))
 
 -- the rows with a value put at a key, or taken away
 abbrev pub write : TypedRows → Key → Option Value → TypedRows
@@ -52,7 +54,8 @@ write S (keys.Dent dir name) v = record S { dents = set S.dents (dir, name) (opt
 write S (keys.Gc id) v = record S { doomed = set S.doomed id (option_and_then as_gc v) }
 write S (keys.Idem client) v = record S { kept = set S.kept client.0 (option_and_then as_kept v) }
 write S (keys.Inode id) v = record S { inodes = set S.inodes id (option_and_then as_inode v) }
-write S (keys.Session inode client number) v = record S { sessions = set S.sessions (inode, (client.0, number)) (option_and_then as_session v) }
+write S (keys.Session inode client number) v =
+    record S { sessions = set S.sessions (inode, (client.0, number)) (option_and_then as_session v) }
 
 -- the value, where it is of the key's form
 abbrev pub of_form : Key → Value → Option Value

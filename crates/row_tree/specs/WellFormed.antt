@@ -6,6 +6,7 @@ use Rattle.fs_base.specs.declared.kind.Kind.{Kind}
 use Rattle.fs_base.specs.declared.kind.Kind.TheVariants as kinds
 use Rattle.fs_base.specs.declared.layout.DefaultLayout.{DefaultLayout}
 use Rattle.fs_base.specs.declared.layout.Layout.{Layout}
+use Rattle.fs_base.specs.declared.limits.TheConstants.{SERVERS}
 use Rattle.inode_record.specs.declared.inode.InodePart.{InodePart}
 use Rattle.inode_record.specs.declared.inode.InodePart.TheVariants as parts
 use Rattle.inode_record.specs.declared.inode.InodeRow.{InodeRow}
@@ -47,21 +48,26 @@ pub record IsRootRow (row : InodeRow) : Type 0 where
   pub parent : (chunk : ℕ) × (stripe : ℕ) × (row.part ≡ parts.Dir 0 chunk stripe)
   pub links : row.links ≡ 1
 
--- a default that the configuration admits; a layout that a file of this id may have, with 1 to all of its places in use
+-- a default that the configuration admits; a layout that a file of this id may have, with 1 to all of its
+-- places in use
 abbrev pub IsLayout : Settings → ℕ → Layout → Type 0
 IsLayout C id layout =
     let given : DefaultLayout = record { chunk = layout.chunk; stripe = layout.stripe } in
     IsTrue (admits C given) × (layout ≡ layout_at C id given)
 
 abbrev pub FitsConfig : Settings → ℕ → InodePart → Type 0
-FitsConfig C id (parts.Dir parent chunk stripe) = IsTrue (admits C (record { chunk = chunk; stripe = stripe }))
-FitsConfig C id (parts.File length truncs layout hint) = IsLayout C id layout × (1 ≤ hint) × (hint ≤ layout.stripe)
+FitsConfig C id (parts.Dir parent chunk stripe) =
+    IsTrue (admits C (record { chunk = chunk; stripe = stripe }))
+FitsConfig C id (parts.File length truncs layout hint) =
+    IsLayout C id layout × (1 ≤ hint) × (hint ≤ layout.stripe)
 FitsConfig C id (parts.Link target) = Unit {0}
 
 -- waiting: a file that no entry leads to; purged: no inode, and a layout of the id, by which chunks are found
 abbrev pub IsDoomed : Settings → TypedRows → ℕ → GcRow → Type 0
-IsDoomed C S id Waiting = (row : InodeRow) × (get S.inodes id ≡ Some row) × (kind_of row.part ≡ kinds.File) × (row.links ≡ 0)
-IsDoomed C S id (Purged layout hint) = (get S.inodes id ≡ None) × IsLayout C id layout × (1 ≤ hint) × (hint ≤ layout.stripe)
+IsDoomed C S id Waiting =
+    (row : InodeRow) × (get S.inodes id ≡ Some row) × (kind_of row.part ≡ kinds.File) × (row.links ≡ 0)
+IsDoomed C S id (Purged layout hint) =
+    (get S.inodes id ≡ None) × IsLayout C id layout × (1 ≤ hint) × (hint ≤ layout.stripe)
 
 -- What makes typed rows those of a tree, together with `Spells` of their bytes.
 pub record IsWellFormed (C : Settings) (S : TypedRows) : Type 0 where
@@ -71,5 +77,7 @@ pub record IsWellFormed (C : Settings) (S : TypedRows) : Type 0 where
   pub leads : (id : ℕ) → HasKind S id kinds.Dir → (path : List ℕ) × IsPath S id path
   pub entry : (dir : ℕ) (name : List ℕ) (e : DentRow) → get S.dents (dir, name) ≡ Some e → IsEntry S dir e
   pub doomed : (id : ℕ) (g : GcRow) → get S.doomed id ≡ Some g → IsDoomed C S id g × IsGiven S id
-  pub session : (inode client number stamp : ℕ) → get S.sessions (inode, (client, number)) ≡ Some stamp → HasKind S inode kinds.File
-  pub numbers : (server next : ℕ) → get S.next server ≡ Some next → (1 ≤ next) × (next < 2 ^ 32) × (server < 16)
+  pub session : (inode client number stamp : ℕ) → get S.sessions (inode, (client, number)) ≡ Some stamp
+      → HasKind S inode kinds.File
+  pub numbers : (server next : ℕ) → get S.next server ≡ Some next → (1 ≤ next) × (next < 2 ^ 32)
+      × (server < SERVERS)

@@ -124,7 +124,8 @@ impl TypedRows {
         value: &[u8],
     ) -> Result<(), TreeError>
         ensures ok { OnOk result (Puts self.old self.new (keys.Session inode client number) value.now) }
-        ensures bad { IfErr result (λ e. e ≡ errors.BadRows → HasNoValue (keys.Session inode client number) value.now) }
+        ensures bad { IfErr result
+            (λ e. e ≡ errors.BadRows → HasNoValue (keys.Session inode client number) value.now) }
         ensures memory { HasNoValue (keys.Session inode client number) value.now → IsErrOf result errors.BadRows }
     {
         match SessionRow::read(alloc, value) {

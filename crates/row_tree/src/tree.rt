@@ -35,7 +35,9 @@ pub fn read_tree(alloc: Global, rows: &[Row], config: &Config) -> Result<Tree, T
     ensures ascending { IfOk result (λ tree. IsAscending rows.now) }
     ensures ok { IfOk result (λ tree. HasTree config.now rows.now tree.tree) }
     ensures config { IfOk result (λ tree. tree.config ≡ config.now) }
-    ensures bad { IfErr result (λ e. e ≡ errors.BadRows → IsAscending rows.now → (T : trees.Tree) → HasTree config.now rows.now T → ⊥) }
+    ensures bad { IfErr result
+        (λ e. e ≡ errors.BadRows → IsAscending rows.now → (T : trees.Tree) → HasTree config.now rows.now T
+        → ⊥) }
     ensures memory { (IsAscending rows.now → ⊥) → IsErrOf result errors.BadRows }
 {
     if !are_ascending(rows) {

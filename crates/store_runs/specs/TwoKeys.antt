@@ -16,14 +16,19 @@ pub record SetsOne (writes : List Write) : Type 0 where
   pub value : List ℕ
   pub is : writes ≡ record { key = key; value = Some value } ∷ []
 
-set_keeps : (key value q : List ℕ) (rows : List Row) → IsAscending rows → IsSome (value_at_key rows q) → IsSome (value_at_key (with_write key (Some value) rows) q)
-set_keeps key value q rows a h = subst (λ (o : Option (List ℕ)). IsSome o) (sym (value-with_write key q (Some value) rows a)) (some (is_eq (key_cmp q key)) (value_at_key rows q) h)
+set_keeps : (key value q : List ℕ) (rows : List Row) → IsAscending rows → IsSome (value_at_key rows q)
+    → IsSome (value_at_key (with_write key (Some value) rows) q)
+set_keeps key value q rows a h =
+    subst (λ (o : Option (List ℕ)). IsSome o) (sym (value-with_write key q (Some value) rows a))
+    (some (is_eq (key_cmp q key)) (value_at_key rows q) h)
   where
     some : (b : Bool) (o : Option (List ℕ)) → IsSome o → IsSome (cond b (Some value) o)
     some true o h = refl
     some false o h = h
 
 -- an entry that sets one key leaves both a value
-pub keeps_both : (rows : List Row) (writes : List Write) → IsAscending rows → SetsOne writes → HasBoth rows → HasBoth (with_writes rows writes)
+pub keeps_both : (rows : List Row) (writes : List Write) → IsAscending rows → SetsOne writes → HasBoth rows
+    → HasBoth (with_writes rows writes)
 keeps_both rows writes a s h =
-    subst (λ ws. HasBoth (with_writes rows ws)) (sym s.is) (set_keeps s.key s.value (97 ∷ []) rows a h.0, set_keeps s.key s.value (98 ∷ []) rows a h.1)
+    subst (λ ws. HasBoth (with_writes rows ws)) (sym s.is)
+    (set_keeps s.key s.value (97 ∷ []) rows a h.0, set_keeps s.key s.value (98 ∷ []) rows a h.1)

@@ -1,6 +1,7 @@
 //! Commits and reads of a store: reads a list of calls, and writes what each is answered.
 //!
-//! The store's law is that the keys `a` and `b` have a value; each is `-` at first. A line is one of these, or a remark
+//! The store's law is that the keys `a` and `b` have a value; each is `-` at first. A line is one of these,
+//! or a remark
 //! behind `#`:
 //! - `commit SNAPSHOT READ KEY`: sets the key to the snapshot's digits. What it has read is a key, or a range
 //!   `LO-HI:LIMIT`.
@@ -10,7 +11,8 @@
 //! - `parts`: ends the store; its opening rows and its entries are counted, and a new one begins.
 //! - `look VERSION`: the greatest version that is at most this one in the chain of the versions 2, 5 and 9.
 //!
-//! Each read and each commit is also done by the plain program, which goes through the journal; where the two answer
+//! Each read and each commit is also done by the plain program, which goes through the journal; where the two
+//! answer
 //! differently the program fails.
 #![tactic(auto)]
 

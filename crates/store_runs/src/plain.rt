@@ -1,4 +1,5 @@
-//! The store's plain program, as the definitions say it: each read goes through the journal from its beginning, and
+//! The store's plain program, as the definitions say it: each read goes through the journal from its
+//! beginning, and
 //! each commit through all later entries.
 
 ghost use Rattle.std.specs.Prelude.{◌≤◌, length};

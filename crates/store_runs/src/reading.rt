@@ -17,7 +17,9 @@ fn key_read(
     key: &[u8],
 ) -> Result<ReadSet, Memory>
     requires { version ≤ length store.now.journal }
-    ensures { IfOk result (λ reads. Agrees (rows_at (λ (entry : Touch). entry.writes) store.now.opening store.now.journal version) reads) }
+    ensures { IfOk result
+        (λ reads. Agrees
+        (rows_at (λ (entry : Touch). entry.writes) store.now.opening store.now.journal version) reads) }
 {
     let got = store.get_at(version, key)?;
     let mut reads = no_reads(alloc);
@@ -38,7 +40,9 @@ fn range_read(
     limit: u32,
 ) -> Result<ReadSet, Memory>
     requires { version ≤ length store.now.journal }
-    ensures { IfOk result (λ reads. Agrees (rows_at (λ (entry : Touch). entry.writes) store.now.opening store.now.journal version) reads) }
+    ensures { IfOk result
+        (λ reads. Agrees
+        (rows_at (λ (entry : Touch). entry.writes) store.now.opening store.now.journal version) reads) }
 {
     let rows = store.range_at(version, lo, hi, limit)?;
     let mut reads = no_reads(alloc);
@@ -68,7 +72,9 @@ pub fn reads_of(
     words: &str,
 ) -> Result<ReadSet, Memory>
     requires { version ≤ length store.now.journal }
-    ensures { IfOk result (λ reads. Agrees (rows_at (λ (entry : Touch). entry.writes) store.now.opening store.now.journal version) reads) }
+    ensures { IfOk result
+        (λ reads. Agrees
+        (rows_at (λ (entry : Touch). entry.writes) store.now.opening store.now.journal version) reads) }
 {
     match range_of(words) {
         None => key_read(alloc, store, version, words.as_bytes()),

@@ -84,9 +84,12 @@ after_kept C T q settled None = settle T q settled (effect C T q)
 after_kept C T q settled (Some kept) =
     if kept.number == q.number
     then (T, kept.reply)
-    else (if nat_lt q.number kept.number then (T, Refused (codes.Stale kept.number)) else settle T q settled (effect C T q))
+    else (if nat_lt q.number kept.number then (T, Refused (codes.Stale kept.number))
+    else settle T q settled (effect C T q))
 
 -- The tree and the reply after a request, and a settled length, which is 0 where none is settled. An update
 -- looks at its client's kept reply first.
 unfoldable pub apply : Settings → Tree → Request → ℕ → Tree × Reply
-apply C T q settled = if is_query q.call then settle T q settled (effect C T q) else after_kept C T q settled (get T.kept q.client.0)
+apply C T q settled =
+    if is_query q.call then settle T q settled (effect C T q)
+    else after_kept C T q settled (get T.kept q.client.0)

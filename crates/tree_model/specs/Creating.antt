@@ -8,6 +8,7 @@ use Rattle.fs_base.specs.declared.layout.DefaultLayout.{DefaultLayout}
 use Rattle.fs_base.specs.declared.reply.Reply.TheVariants.{Made}
 use Rattle.fs_base.specs.Config.{Settings, admits, layout_at}
 use Rattle.fs_base.specs.Paths.{path_of}
+use Rattle.fs_base.specs.declared.limits.TheConstants.{LAST_NUMBER}
 use Rattle.tree_model.specs.declared.new_node.NewNode.{NewNode}
 use Rattle.tree_model.specs.declared.new_node.NewPart.{NewPart}
 use Rattle.tree_model.specs.declared.new_node.NewPart.TheVariants as new
@@ -54,13 +55,15 @@ with_child T server dir name node =
 abbrev pub add_numbered : Settings → Tree → ℕ → ℕ → NewNode → ℕ → List ℕ → DefaultLayout → Effect
 add_numbered C T server stamp node dir name layout =
     let id = id_of (next_at T.next server) server in
-    if next_at T.next server == 4294967295
+    if next_at T.next server == LAST_NUMBER
     then refuses (codes.AtLimit Inodes)
-    else Makes (with_child T server dir name (node_with node.mode stamp (part_for C node.part id layout))) (Made id)
+    else Makes (with_child T server dir name (node_with node.mode stamp (part_for C node.part id layout)))
+    (Made id)
 
 -- the given layout, else the directory's default
 abbrev pub add_in : Settings → Tree → ℕ → ℕ → NewNode → ℕ → List ℕ → NodePart → Effect
-add_in C T server stamp node dir name (Dir layout) = add_numbered C T server stamp node dir name (unwrap_or node.layout layout)
+add_in C T server stamp node dir name (Dir layout) =
+    add_numbered C T server stamp node dir name (unwrap_or node.layout layout)
 add_in C T server stamp node dir name (File length truncs layout hint) = refuses codes.NotDir
 add_in C T server stamp node dir name (Link target) = refuses codes.NotDir
 
@@ -83,7 +86,8 @@ make_at C T server stamp node (AtParent dir name) =
 -- a layout that the configuration doesn't admit is refused before the walk
 abbrev pub make : Settings → Tree → ℕ → ℕ → NewNode → Place → Effect
 make C T server stamp node place = on_path (path_of place.text) (λ path.
-    if is_layout C node.layout then make_at C T server stamp node (resolve T place.base path Parent) else refuses codes.BadLayout)
+    if is_layout C node.layout then make_at C T server stamp node (resolve T place.base path Parent)
+    else refuses codes.BadLayout)
 
 -- ---- what each call makes
 
@@ -99,4 +103,7 @@ new_link target = record { mode = 511; layout = None; part = new.Link target }
 
 -- the target's words come right after the place's
 abbrev pub symlink : Settings → Tree → ℕ → ℕ → Place → List ℕ → Effect
-symlink C T server stamp place target = on_path (path_of place.text) (λ path. on_path (path_of target) (λ leads. make_at C T server stamp (new_link target) (resolve T place.base path Parent)))
+symlink C T server stamp place target =
+    on_path (path_of place.text)
+    (λ path. on_path (path_of target)
+    (λ leads. make_at C T server stamp (new_link target) (resolve T place.base path Parent)))

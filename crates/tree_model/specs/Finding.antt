@@ -62,7 +62,10 @@ stat T place = at_end T place Follow (stat_at T)
 -- an entry of a directory, with the kind of the node that it leads to; one without a node, which no tree of
 -- well-formed rows has, is left out
 abbrev pub entry_in : Tree → ℕ → (ℕ × List ℕ) × ℕ → Option DirEntry
-entry_in T dir e = cond (e.0.0 == dir) (option_map (λ (node : Node). record { name = e.0.1; inode = e.1; kind = kind_of_part node.part }) (get T.nodes e.1)) None
+entry_in T dir e =
+    cond (e.0.0 == dir)
+    (option_map (λ (node : Node). record { name = e.0.1; inode = e.1; kind = kind_of_part node.part })
+    (get T.nodes e.1)) None
 
 -- in the order of their names' bytes
 abbrev pub names_in : Tree → ℕ → List DirEntry
@@ -100,7 +103,9 @@ readlink T place = at_end T place NoFollow (readlink_at T)
 -- ---- setattr
 
 abbrev pub setattr_at : Tree → ℕ → Changes → Walked → Effect
-setattr_at T stamp changes walked = on_node T walked (λ id node. Makes (record T { nodes = insert T.nodes id (changed changes stamp node) }) Done)
+setattr_at T stamp changes walked =
+    on_node T walked
+    (λ id node. Makes (record T { nodes = insert T.nodes id (changed changes stamp node) }) Done)
 
 abbrev pub setattr : Tree → ℕ → Place → Changes → Effect
 setattr T stamp place changes = at_end T place Follow (setattr_at T stamp changes)

@@ -7,6 +7,7 @@ use Rattle.fs_base.specs.declared.call.Changes.{Changes}
 use Rattle.fs_base.specs.declared.code.Code.TheVariants.{Stale}
 use Rattle.fs_base.specs.declared.reply.Reply.{Reply}
 use Rattle.fs_base.specs.declared.reply.Reply.TheVariants.{Done, Made, Refused}
+use Rattle.fs_base.specs.declared.limits.TheConstants.{LAST_NUMBER}
 use Rattle.tree_model.specs.declared.kept.Doom.TheVariants.{Waiting}
 use Rattle.tree_model.specs.declared.kept.KeptReply.{KeptReply}
 use Rattle.tree_model.specs.declared.node.Node.{Node}
@@ -35,7 +36,8 @@ added T server child =
 
 -- the tree with the node of an id changed, where there is one
 abbrev pub altered : Tree → ℕ → Changes → ℕ → Tree
-altered T id changes stamp = record T { nodes = set T.nodes id (option_map (changed changes stamp) (get T.nodes id)) }
+altered T id changes stamp =
+    record T { nodes = set T.nodes id (option_map (changed changes stamp) (get T.nodes id)) }
 
 -- the nodes with the stamp as the change time of an id's, where there is one
 abbrev pub touched_at : Tree → ℕ → ℕ → FinMap nat_cmp Node
@@ -68,17 +70,24 @@ replaced T stamp shift old fate = moved (detached T stamp shift.to old fate) shi
 -- the plan is what the call does
 abbrev pub IsPlan : Tree → ℕ → ℕ → Effect → Plan → Type 0
 IsPlan T server stamp effect (Refuse code) = effect ≡ refuses code
-IsPlan T server stamp effect (Add child) = (effect ≡ Makes (added T server child) (Made child.id)) × (child.number < 4294967295)
-IsPlan T server stamp effect (Change id changes) = IsSome (get T.nodes id) × (effect ≡ Makes (altered T id changes stamp) Done)
-IsPlan T server stamp effect (Join key id) = IsSome (get T.nodes id) × (effect ≡ Makes (linked T stamp key id) Done)
-IsPlan T server stamp effect (Detach key id fate) = IsSome (get T.nodes id) × (effect ≡ Makes (detached T stamp key id fate) Done)
+IsPlan T server stamp effect (Add child) =
+    (effect ≡ Makes (added T server child) (Made child.id)) × (child.number < LAST_NUMBER)
+IsPlan T server stamp effect (Change id changes) =
+    IsSome (get T.nodes id) × (effect ≡ Makes (altered T id changes stamp) Done)
+IsPlan T server stamp effect (Join key id) =
+    IsSome (get T.nodes id) × (effect ≡ Makes (linked T stamp key id) Done)
+IsPlan T server stamp effect (Detach key id fate) =
+    IsSome (get T.nodes id) × (effect ≡ Makes (detached T stamp key id fate) Done)
 IsPlan T server stamp effect Keep = effect ≡ Makes T Done
-IsPlan T server stamp effect (Move shift) = (shift.from ≢ shift.to) × (effect ≡ Makes (moved T shift.from shift.to shift.id) Done)
+IsPlan T server stamp effect (Move shift) =
+    (shift.from ≢ shift.to) × (effect ≡ Makes (moved T shift.from shift.to shift.id) Done)
 IsPlan T server stamp effect (Replace shift old fate) =
-    (shift.from ≢ shift.to) × IsSome (get T.entries shift.to) × IsSome (get T.nodes old) × (effect ≡ Makes (replaced T stamp shift old fate) Done)
+    (shift.from ≢ shift.to) × IsSome (get T.entries shift.to) × IsSome (get T.nodes old)
+    × (effect ≡ Makes (replaced T stamp shift old fate) Done)
 
 -- the reply to a number that came before, or is older than one that did
 abbrev pub earlier_reply : ℕ → Option KeptReply → Option Reply
 earlier_reply number None = None
 earlier_reply number (Some kept) =
-    if kept.number == number then Some kept.reply else (if nat_lt number kept.number then Some (Refused (Stale kept.number)) else None)
+    if kept.number == number then Some kept.reply
+    else (if nat_lt number kept.number then Some (Refused (Stale kept.number)) else None)

@@ -1,4 +1,5 @@
--- Finite maps: a value set or taken away, values changed one by one, entries counted and tested; the keys' orders.
+-- Finite maps: a value set or taken away, values changed one by one, entries counted and tested; the keys'
+-- orders.
 use Rattle.std.specs.Prelude.{ℕ, ◌+◌, Bool, true, false, cond, List, [], ◌∷◌, map, Some, None, Option}
 use Rattle.std.specs.List.{list_all}
 use Rattle.std.specs.declared.cmp.Ordering.{Ordering}

@@ -35,7 +35,15 @@ pub record Served : Type 0 where
 
 -- the tree that these maps are
 abbrev pub of_parts : TreeParts → Tree
-of_parts p = record { nodes = p.nodes; entries = p.entries; writers = p.writers; kept = p.kept; doomed = p.doomed; next = p.next }
+of_parts p =
+    record {
+      nodes = p.nodes;
+      entries = p.entries;
+      writers = p.writers;
+      kept = p.kept;
+      doomed = p.doomed;
+      next = p.next;
+    }
 
 -- a server's next number, 1 at first
 abbrev pub next_at : FinMap nat_cmp ℕ → ℕ → ℕ
@@ -43,11 +51,20 @@ next_at next server = unwrap_or (get next server) 1
 
 -- a new node: owner and group 0, with the stamp as each of its times
 abbrev pub node_with : ℕ → ℕ → NodePart → Node
-node_with mode stamp part = record { mode = mode; owner = 0; group = 0; atime = stamp; mtime = stamp; ctime = stamp; part = part }
+node_with mode stamp part =
+    record { mode = mode; owner = 0; group = 0; atime = stamp; mtime = stamp; ctime = stamp; part = part }
 
 -- mode 755, and the configuration's default layout
 abbrev pub root_of : Config → Node
 root_of C = node_with 493 0 (Dir (record { chunk = C.chunk; stripe = C.stripe }))
 
 abbrev pub new_tree : Config → Tree
-new_tree C = record { nodes = insert empty 0 (root_of C); entries = empty; writers = empty; kept = empty; doomed = empty; next = empty }
+new_tree C =
+    record {
+      nodes = insert empty 0 (root_of C);
+      entries = empty;
+      writers = empty;
+      kept = empty;
+      doomed = empty;
+      next = empty;
+    }

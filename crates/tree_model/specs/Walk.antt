@@ -80,7 +80,8 @@ at_node follow end here id names below (Some node) = at_part follow end here id 
 
 abbrev pub at_entry : Behind → Tree → WalkEnd → ℕ → List (List ℕ) → (ℕ → Trip) → Option ℕ → Trip
 at_entry follow T end here names below None = stay (Stopped NotFound)
-at_entry follow T end here names below (Some id) = at_node follow end here id names (below id) (get T.nodes id)
+at_entry follow T end here names below (Some id) =
+    at_node follow end here id names (below id) (get T.nodes id)
 
 -- The names from directory here on; follow goes on behind a link. An entry's node tells whether the walk goes
 -- on, so of inodes only a base and the links are looked at.
@@ -89,12 +90,15 @@ down follow T end [] here = stay (ends_at end here)
 down follow T end (name ∷ names) here =
     if is_last_of_parent end names
     then stay (AtParent here name)
-    else visiting (Entry here name) (at_entry follow T end here names (down follow T end names) (get T.entries (here, name)))
+    else visiting (Entry here name)
+    (at_entry follow T end here names (down follow T end names) (get T.entries (here, name)))
 
 -- with so many links that may still be followed; a link that may not is refused at its entry
 abbrev pub walk : ℕ → Tree → WalkEnd → List (List ℕ) → ℕ → Trip
 walk zero T end = down (λ _ _ _ _. stay (Stopped LinkLoop)) T end
-walk (suc left) T end = down (λ id here target names. visiting (Inode id) (on_target (walk left T end) here names (path_of target))) T end
+walk (suc left) T end =
+    down (λ id here target names. visiting (Inode id)
+    (on_target (walk left T end) here names (path_of target))) T end
 
 -- from a base that has still to be looked at
 abbrev pub if_dir : NodePart → Trip → Trip

@@ -8,6 +8,7 @@ ghost use Rattle.tree_model.specs.Making.{IsPlan};
 use crate::new_node::NewNode;
 use crate::plan::Plan;
 use crate::tree::Tree;
+use fs_base::limits::{FILE_BYTES, SERVERS};
 use fs_base::{Call, Memory, Reply, Request};
 use std::alloc::Global;
 
@@ -73,10 +74,12 @@ impl Tree {
 
     /// What an update is to do.
     fn plan(&self, alloc: Global, request: &Request) -> Result<Plan, Memory>
-        requires server { request.now.server < 16 }
+        requires server { request.now.server < SERVERS }
         requires told { IsTrue (is_told request.now.call) }
         requires update { is_query request.now.call ≡ false }
-        ensures { IfOk result (IsPlan self.now.tree request.now.server request.now.stamp (effect self.now.config self.now.tree request.now)) }
+        ensures { IfOk result
+            (IsPlan self.now.tree request.now.server request.now.stamp
+            (effect self.now.config self.now.tree request.now)) }
     {
         match &request.call {
             Call::Mkdir {
@@ -106,10 +109,12 @@ impl Tree {
         request: &Request,
         settled: Option<u64>,
     ) -> Result<Reply, Memory>
-        requires server { request.now.server < 16 }
+        requires server { request.now.server < SERVERS }
         requires told { IsTrue (is_told request.now.call) }
         requires update { is_query request.now.call ≡ false }
-        ensures ok { IfOk result (λ reply. settle self.old.tree request.now (unwrap_or settled 0) (effect self.old.config self.old.tree request.now) ≡ (self.new.tree, reply)) }
+        ensures ok { IfOk result
+            (λ reply. settle self.old.tree request.now (unwrap_or settled 0)
+            (effect self.old.config self.old.tree request.now) ≡ (self.new.tree, reply)) }
         ensures config { self.new.config ≡ self.old.config }
         ensures err { OnErr result (self.new ≡ self.old) }
     {
@@ -132,10 +137,12 @@ impl Tree {
         request: &Request,
         settled: Option<u64>,
     ) -> Result<Reply, Memory>
-        requires server { request.now.server < 16 }
+        requires server { request.now.server < SERVERS }
         requires told { IsTrue (is_told request.now.call) }
         requires update { is_query request.now.call ≡ false }
-        ensures ok { IfOk result (λ reply. after_kept self.old.config self.old.tree request.now (unwrap_or settled 0) (get self.old.tree.kept request.now.client.0) ≡ (self.new.tree, reply)) }
+        ensures ok { IfOk result
+            (λ reply. after_kept self.old.config self.old.tree request.now (unwrap_or settled 0)
+            (get self.old.tree.kept request.now.client.0) ≡ (self.new.tree, reply)) }
         ensures config { self.new.config ≡ self.old.config }
         ensures err { OnErr result (self.new ≡ self.old) }
     {
@@ -155,11 +162,13 @@ impl Tree {
         request: &Request,
         settled: Option<u64>,
     ) -> Result<Reply, Memory>
-        requires server { request.now.server < 16 }
+        requires server { request.now.server < SERVERS }
         requires told { IsTrue (is_told request.now.call) }
         requires given { is_some settled ≡ settles request.now.call }
-        requires bounded { IfSome settled (λ length. length ≤ 1099511627776) }
-        ensures ok { IfOk result (λ reply. apply self.old.config self.old.tree request.now (unwrap_or settled 0) ≡ (self.new.tree, reply)) }
+        requires bounded { IfSome settled (λ length. length ≤ FILE_BYTES) }
+        ensures ok { IfOk result
+            (λ reply. apply self.old.config self.old.tree request.now (unwrap_or settled 0)
+            ≡ (self.new.tree, reply)) }
         ensures config { self.new.config ≡ self.old.config }
         ensures err { OnErr result (self.new ≡ self.old) }
     {

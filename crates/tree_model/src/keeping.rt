@@ -9,6 +9,7 @@ use crate::kept::{Doom, KeptReply};
 use crate::plan::{Child, Fate, Shift};
 use crate::setattr::{change_node, touch_node};
 use crate::tree::Tree;
+use fs_base::limits::LAST_NUMBER;
 use fs_base::{Changes, Code, InodeId, Memory, Name, Reply, Request};
 use std::alloc::Global;
 
@@ -19,7 +20,8 @@ impl Tree {
         alloc: Global,
         request: &Request,
     ) -> Result<Option<Reply>, Memory>
-        ensures { IfOk result (λ reply. reply ≡ earlier_reply request.now.number (get self.now.tree.kept request.now.client.0)) }
+        ensures { IfOk result
+            (λ reply. reply ≡ earlier_reply request.now.number (get self.now.tree.kept request.now.client.0)) }
     {
         let Some(kept) = self.kept.get(request.client.0) else {
             return Ok(None);
@@ -36,7 +38,7 @@ impl Tree {
     /// Puts a child in, all or nothing.
     #[tactic(auto, using(crate::proofs::Undo::there_by_id, crate::proofs::Undo::undone_by_id))]
     fn add(&mut self, server: u8, child: Child) -> Result<(), Memory>
-        requires { child.number < 4294967295 }
+        requires { child.number < LAST_NUMBER }
         ensures ok { OnOk result (self.new.tree ≡ added self.old.tree server child) }
         ensures config { self.new.config ≡ self.old.config }
         ensures err { OnErr result (self.new ≡ self.old) }
@@ -69,8 +71,9 @@ impl Tree {
     /// Puts a child and the reply in, all or nothing.
     #[tactic(auto, using(crate::proofs::Undo::there_by_id, crate::proofs::Undo::undone_by_id))]
     pub(crate) fn add_kept(&mut self, request: &Request, child: Child) -> Result<Reply, Memory>
-        requires { child.number < 4294967295 }
-        ensures ok { OnOk result (self.new.tree ≡ keeps (added self.old.tree request.now.server child) request.now (Made child.id)) }
+        requires { child.number < LAST_NUMBER }
+        ensures ok { OnOk result
+            (self.new.tree ≡ keeps (added self.old.tree request.now.server child) request.now (Made child.id)) }
         ensures reply { IfOk result (λ reply. reply ≡ Made child.id) }
         ensures config { self.new.config ≡ self.old.config }
         ensures err { OnErr result (self.new ≡ self.old) }
@@ -98,7 +101,8 @@ impl Tree {
         changes: Changes,
     ) -> Result<Reply, Memory>
         requires { IsSome (get self.old.tree.nodes id) }
-        ensures ok { OnOk result (self.new.tree ≡ keeps (altered self.old.tree id changes request.now.stamp) request.now Done) }
+        ensures ok { OnOk result
+            (self.new.tree ≡ keeps (altered self.old.tree id changes request.now.stamp) request.now Done) }
         ensures reply { IfOk result (λ reply. reply ≡ Done) }
         ensures config { self.new.config ≡ self.old.config }
         ensures err { OnErr result (self.new ≡ self.old) }
@@ -135,7 +139,8 @@ impl Tree {
         id: InodeId,
     ) -> Result<Reply, Memory>
         requires { IsSome (get self.old.tree.nodes id) }
-        ensures ok { OnOk result (self.new.tree ≡ keeps (linked self.old.tree request.now.stamp key id) request.now Done) }
+        ensures ok { OnOk result
+            (self.new.tree ≡ keeps (linked self.old.tree request.now.stamp key id) request.now Done) }
         ensures reply { IfOk result (λ reply. reply ≡ Done) }
         ensures config { self.new.config ≡ self.old.config }
         ensures err { OnErr result (self.new ≡ self.old) }
@@ -153,7 +158,8 @@ impl Tree {
         }
     }
 
-    /// What becomes of a node that loses an entry, all or nothing. Only for a file that waits it takes memory.
+    /// What becomes of a node that loses an entry, all or nothing. Only for a file that waits it takes
+    /// memory.
     fn fare(&mut self, id: InodeId, fate: Fate, stamp: u64) -> Result<(), Memory>
         requires { IsSome (get self.old.tree.nodes id) }
         ensures ok { OnOk result (self.new.tree ≡ fared self.old.tree stamp id fate) }
@@ -187,7 +193,8 @@ impl Tree {
         fate: Fate,
     ) -> Result<Reply, Memory>
         requires { IsSome (get self.old.tree.nodes id) }
-        ensures ok { OnOk result (self.new.tree ≡ keeps (detached self.old.tree request.now.stamp key id fate) request.now Done) }
+        ensures ok { OnOk result
+            (self.new.tree ≡ keeps (detached self.old.tree request.now.stamp key id fate) request.now Done) }
         ensures reply { IfOk result (λ reply. reply ≡ Done) }
         ensures config { self.new.config ≡ self.old.config }
         ensures err { OnErr result (self.new ≡ self.old) }
@@ -234,7 +241,8 @@ impl Tree {
     #[tactic(auto, using(crate::proofs::Undo::there_by_id, crate::proofs::Undo::undone_by_id))]
     pub(crate) fn move_kept(&mut self, request: &Request, shift: Shift) -> Result<Reply, Memory>
         requires { shift.from ≢ shift.to }
-        ensures ok { OnOk result (self.new.tree ≡ keeps (moved self.old.tree shift.from shift.to shift.id) request.now Done) }
+        ensures ok { OnOk result
+            (self.new.tree ≡ keeps (moved self.old.tree shift.from shift.to shift.id) request.now Done) }
         ensures reply { IfOk result (λ reply. reply ≡ Done) }
         ensures config { self.new.config ≡ self.old.config }
         ensures err { OnErr result (self.new ≡ self.old) }
@@ -261,7 +269,8 @@ impl Tree {
         requires apart { shift.from ≢ shift.to }
         requires taken { IsSome (get self.old.tree.entries shift.to) }
         requires there { IsSome (get self.old.tree.nodes old) }
-        ensures ok { OnOk result (self.new.tree ≡ keeps (replaced self.old.tree request.now.stamp shift old fate) request.now Done) }
+        ensures ok { OnOk result
+            (self.new.tree ≡ keeps (replaced self.old.tree request.now.stamp shift old fate) request.now Done) }
         ensures reply { IfOk result (λ reply. reply ≡ Done) }
         ensures config { self.new.config ≡ self.old.config }
         ensures err { OnErr result (self.new ≡ self.old) }

@@ -8,6 +8,7 @@ use crate::node::NodePart;
 use crate::plan::{Fate, Plan};
 use crate::tree::Tree;
 use crate::walk::{WalkEnd, Walked};
+use fs_base::limits::LINK_COUNT;
 use fs_base::{Code, InodeId, Kind, Limit, Memory, Name, Place, Request};
 use std::alloc::Global;
 
@@ -28,12 +29,13 @@ pub(crate) fn fate_of(last: bool, part: &NodePart) -> Fate
 impl Tree {
     /// A further entry of a node, under this name.
     fn plan_link_node(&self, request: &Request, id: InodeId, key: (u64, Name)) -> Plan
-        ensures { IsPlan self.now.tree request.now.server request.now.stamp (link_node self.now.tree request.now.stamp id key.0 key.1) result }
+        ensures { IsPlan self.now.tree request.now.server request.now.stamp
+            (link_node self.now.tree request.now.stamp id key.0 key.1) result }
     {
         let Some(_node) = self.node(id.get()) else {
             return Plan::Refuse(Code::NotFound);
         };
-        if self.count_to(id) == 65_535 {
+        if self.count_to(id) == LINK_COUNT as usize {
             return Plan::Refuse(Code::AtLimit(Limit::Links));
         }
         Plan::Join(key, id)
@@ -59,7 +61,8 @@ impl Tree {
     }
 
     fn plan_link_to(&self, request: &Request, id: InodeId, to: Walked) -> Plan
-        ensures { IsPlan self.now.tree request.now.server request.now.stamp (link_to self.now.tree request.now.stamp id to) result }
+        ensures { IsPlan self.now.tree request.now.server request.now.stamp
+            (link_to self.now.tree request.now.stamp id to) result }
     {
         match to {
             Walked::At(_, _) => Plan::Refuse(Code::Exists),
@@ -70,7 +73,8 @@ impl Tree {
     }
 
     fn plan_link_of_kind(&self, request: &Request, kind: Kind, id: InodeId, to: Walked) -> Plan
-        ensures { IsPlan self.now.tree request.now.server request.now.stamp (link_at self.now.tree request.now.stamp (Walked.At id kind) to) result }
+        ensures { IsPlan self.now.tree request.now.server request.now.stamp
+            (link_at self.now.tree request.now.stamp (Walked.At id kind) to) result }
     {
         match kind {
             Kind::Dir => Plan::Refuse(Code::IsDir),
@@ -80,7 +84,8 @@ impl Tree {
     }
 
     fn plan_link_at(&self, request: &Request, from: Walked, to: Walked) -> Plan
-        ensures { IsPlan self.now.tree request.now.server request.now.stamp (link_at self.now.tree request.now.stamp from to) result }
+        ensures { IsPlan self.now.tree request.now.server request.now.stamp
+            (link_at self.now.tree request.now.stamp from to) result }
     {
         match from {
             Walked::At(id, kind) => self.plan_link_of_kind(request, kind, id, to),
@@ -98,7 +103,9 @@ impl Tree {
         from: &Place,
         to: &Place,
     ) -> Result<Plan, Memory>
-        ensures { IfOk result (IsPlan self.now.tree request.now.server request.now.stamp (link self.now.tree request.now.stamp from.now to.now)) }
+        ensures { IfOk result
+            (IsPlan self.now.tree request.now.server request.now.stamp
+            (link self.now.tree request.now.stamp from.now to.now)) }
     {
         let source = match from.path(alloc)? {
             Ok(path) => path,
@@ -115,7 +122,8 @@ impl Tree {
 
     /// Takes the entry at a name away.
     fn plan_unlink_entry(&self, request: &Request, key: (u64, Name)) -> Plan
-        ensures { IsPlan self.now.tree request.now.server request.now.stamp (unlink_entry self.now.tree request.now.stamp key.0 key.1 (get self.now.tree.entries key)) result }
+        ensures { IsPlan self.now.tree request.now.server request.now.stamp
+            (unlink_entry self.now.tree request.now.stamp key.0 key.1 (get self.now.tree.entries key)) result }
     {
         let Some(id) = self.entry(&key) else {
             return Plan::Refuse(Code::NotFound);
@@ -131,7 +139,8 @@ impl Tree {
     }
 
     fn plan_unlink_at(&self, request: &Request, walked: Walked) -> Plan
-        ensures { IsPlan self.now.tree request.now.server request.now.stamp (unlink_at self.now.tree request.now.stamp walked) result }
+        ensures { IsPlan self.now.tree request.now.server request.now.stamp
+            (unlink_at self.now.tree request.now.stamp walked) result }
     {
         match walked {
             Walked::At(_, _) => Plan::Refuse(Code::IsRoot),
@@ -148,7 +157,9 @@ impl Tree {
         request: &Request,
         place: &Place,
     ) -> Result<Plan, Memory>
-        ensures { IfOk result (IsPlan self.now.tree request.now.server request.now.stamp (unlink self.now.tree request.now.stamp place.now)) }
+        ensures { IfOk result
+            (IsPlan self.now.tree request.now.server request.now.stamp
+            (unlink self.now.tree request.now.stamp place.now)) }
     {
         match place.path(alloc)? {
             Ok(path) => {
@@ -174,7 +185,8 @@ impl Tree {
 
     /// Takes the directory at a name away.
     fn plan_rmdir_entry(&self, request: &Request, key: (u64, Name)) -> Plan
-        ensures { IsPlan self.now.tree request.now.server request.now.stamp (rmdir_entry self.now.tree key.0 key.1 (get self.now.tree.entries key)) result }
+        ensures { IsPlan self.now.tree request.now.server request.now.stamp
+            (rmdir_entry self.now.tree key.0 key.1 (get self.now.tree.entries key)) result }
     {
         let Some(id) = self.entry(&key) else {
             return Plan::Refuse(Code::NotFound);
@@ -195,7 +207,8 @@ impl Tree {
     }
 
     fn plan_rmdir_at(&self, request: &Request, walked: Walked) -> Plan
-        ensures { IsPlan self.now.tree request.now.server request.now.stamp (rmdir_at self.now.tree walked) result }
+        ensures { IsPlan self.now.tree request.now.server request.now.stamp (rmdir_at self.now.tree walked)
+            result }
     {
         match walked {
             Walked::At(_, _) => Plan::Refuse(Code::IsRoot),
@@ -212,7 +225,8 @@ impl Tree {
         request: &Request,
         place: &Place,
     ) -> Result<Plan, Memory>
-        ensures { IfOk result (IsPlan self.now.tree request.now.server request.now.stamp (rmdir self.now.tree place.now)) }
+        ensures { IfOk result
+            (IsPlan self.now.tree request.now.server request.now.stamp (rmdir self.now.tree place.now)) }
     {
         match place.path(alloc)? {
             Ok(path) => {

@@ -9,6 +9,7 @@ use crate::plan::{Child, Plan};
 use crate::tree::Tree;
 use crate::walk::{WalkEnd, Walked};
 use crate::walking::path_of;
+use fs_base::limits::SERVERS;
 use fs_base::{Code, Config, DefaultLayout, InodeId, Limit, Memory, Name, Place, Request, Text};
 use std::alloc::Global;
 
@@ -25,7 +26,7 @@ pub fn is_layout(config: &Config, given: Option<DefaultLayout>) -> bool
 impl Tree {
     /// A new node under this name, where nothing stands there.
     fn plan_child(&self, request: &Request, new: NewNode, key: (u64, Name)) -> Plan
-        requires { request.now.server < 16 }
+        requires { request.now.server < SERVERS }
         ensures { IsPlan self.now.tree request.now.server request.now.stamp
             (unless_there (get self.now.tree.entries key) (add_child self.now.config self.now.tree request.now.server request.now.stamp new key.0 key.1 (get self.now.tree.nodes key.0)))
             result }
@@ -55,8 +56,9 @@ impl Tree {
     }
 
     fn plan_at(&self, request: &Request, new: NewNode, walked: Walked) -> Plan
-        requires { request.now.server < 16 }
-        ensures { IsPlan self.now.tree request.now.server request.now.stamp (make_at self.now.config self.now.tree request.now.server request.now.stamp new walked) result }
+        requires { request.now.server < SERVERS }
+        ensures { IsPlan self.now.tree request.now.server request.now.stamp
+            (make_at self.now.config self.now.tree request.now.server request.now.stamp new walked) result }
     {
         match walked {
             Walked::At(_, _) => Plan::Refuse(Code::Exists),
@@ -74,8 +76,10 @@ impl Tree {
         place: &Place,
         new: NewNode,
     ) -> Result<Plan, Memory>
-        requires { request.now.server < 16 }
-        ensures { IfOk result (IsPlan self.now.tree request.now.server request.now.stamp (make self.now.config self.now.tree request.now.server request.now.stamp new place.now)) }
+        requires { request.now.server < SERVERS }
+        ensures { IfOk result
+            (IsPlan self.now.tree request.now.server request.now.stamp
+            (make self.now.config self.now.tree request.now.server request.now.stamp new place.now)) }
     {
         let path = match place.path(alloc)? {
             Ok(path) => path,
@@ -95,8 +99,10 @@ impl Tree {
         place: &Place,
         target: &Text,
     ) -> Result<Plan, Memory>
-        requires { request.now.server < 16 }
-        ensures { IfOk result (IsPlan self.now.tree request.now.server request.now.stamp (symlink self.now.config self.now.tree request.now.server request.now.stamp place.now target.now)) }
+        requires { request.now.server < SERVERS }
+        ensures { IfOk result
+            (IsPlan self.now.tree request.now.server request.now.stamp
+            (symlink self.now.config self.now.tree request.now.server request.now.stamp place.now target.now)) }
     {
         let path = match place.path(alloc)? {
             Ok(path) => path,

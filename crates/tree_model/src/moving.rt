@@ -53,7 +53,8 @@ impl Tree {
         requires apart { shift.from ≢ shift.to }
         requires taken { IsSome (get self.now.tree.entries shift.to) }
         requires there { IsSome (get self.now.tree.nodes old) }
-        ensures { IsPlan self.now.tree request.now.server request.now.stamp (dir_over self.now.tree shift.from shift.to shift.id old part.now) result }
+        ensures { IsPlan self.now.tree request.now.server request.now.stamp
+            (dir_over self.now.tree shift.from shift.to shift.id old part.now) result }
     {
         match part {
             NodePart::Dir { .. } => {
@@ -72,7 +73,9 @@ impl Tree {
         requires apart { shift.from ≢ shift.to }
         requires taken { get self.now.tree.entries shift.to ≡ Some old }
         requires there { get self.now.tree.nodes old ≡ Some node.now }
-        ensures { IsPlan self.now.tree request.now.server request.now.stamp (other_over self.now.tree request.now.stamp shift.from shift.to shift.id old node.now node.now.part) result }
+        ensures { IsPlan self.now.tree request.now.server request.now.stamp
+            (other_over self.now.tree request.now.stamp shift.from shift.to shift.id old node.now
+            node.now.part) result }
     {
         if let NodePart::Dir { .. } = &node.part {
             return Plan::Refuse(Code::IsDir);
@@ -85,7 +88,9 @@ impl Tree {
     fn plan_move_over(&self, request: &Request, shift: Shift, part: &NodePart, old: InodeId) -> Plan
         requires apart { shift.from ≢ shift.to }
         requires taken { get self.now.tree.entries shift.to ≡ Some old }
-        ensures { IsPlan self.now.tree request.now.server request.now.stamp (if_there (get self.now.tree.nodes old) (move_over self.now.tree request.now.stamp shift.from shift.to shift.id old part.now)) result }
+        ensures { IsPlan self.now.tree request.now.server request.now.stamp
+            (if_there (get self.now.tree.nodes old)
+            (move_over self.now.tree request.now.stamp shift.from shift.to shift.id old part.now)) result }
     {
         let Some(node) = self.node(old.get()) else {
             return Plan::Refuse(Code::NotFound);
@@ -107,7 +112,8 @@ impl Tree {
     ) -> Plan
         requires from { get self.now.tree.entries shift.from ≡ Some shift.id }
         requires taken { get self.now.tree.entries shift.to ≡ Some old }
-        ensures { IsPlan self.now.tree request.now.server request.now.stamp (move_to self.now.tree request.now.stamp shift.from shift.to shift.id part.now (Some old)) result }
+        ensures { IsPlan self.now.tree request.now.server request.now.stamp
+            (move_to self.now.tree request.now.stamp shift.from shift.to shift.id part.now (Some old)) result }
     {
         if old.get() == shift.id.get() {
             return Plan::Keep;
@@ -121,7 +127,9 @@ impl Tree {
     /// A node of this kind to a place, by what stands there.
     fn plan_move_to(&self, request: &Request, shift: Shift, part: &NodePart) -> Plan
         requires { get self.now.tree.entries shift.from ≡ Some shift.id }
-        ensures { IsPlan self.now.tree request.now.server request.now.stamp (move_to self.now.tree request.now.stamp shift.from shift.to shift.id part.now (get self.now.tree.entries shift.to)) result }
+        ensures { IsPlan self.now.tree request.now.server request.now.stamp
+            (move_to self.now.tree request.now.stamp shift.from shift.to shift.id part.now
+            (get self.now.tree.entries shift.to)) result }
     {
         if let Some(old) = self.entry(&shift.to) {
             return self.plan_move_taken(request, shift, part, old);
@@ -135,7 +143,9 @@ impl Tree {
     /// The same, where the place lies in a directory.
     fn plan_move_under(&self, request: &Request, shift: Shift, part: &NodePart) -> Plan
         requires { get self.now.tree.entries shift.from ≡ Some shift.id }
-        ensures { IsPlan self.now.tree request.now.server request.now.stamp (move_under self.now.tree request.now.stamp shift.from shift.to shift.id part.now (get self.now.tree.nodes shift.to.0)) result }
+        ensures { IsPlan self.now.tree request.now.server request.now.stamp
+            (move_under self.now.tree request.now.stamp shift.from shift.to shift.id part.now
+            (get self.now.tree.nodes shift.to.0)) result }
     {
         let Some(parent) = self.node(shift.to.0) else {
             return Plan::Refuse(Code::NotDir);
@@ -156,7 +166,8 @@ impl Tree {
         to: Walked,
     ) -> Plan
         requires { get self.now.tree.entries from ≡ Some id }
-        ensures { IsPlan self.now.tree request.now.server request.now.stamp (move_at self.now.tree request.now.stamp from id part.now to) result }
+        ensures { IsPlan self.now.tree request.now.server request.now.stamp
+            (move_at self.now.tree request.now.stamp from id part.now to) result }
     {
         match to {
             Walked::At(_, _) => Plan::Refuse(Code::IsRoot),
@@ -170,7 +181,8 @@ impl Tree {
     }
 
     fn plan_move_entry(&self, request: &Request, from: (u64, Name), to: Walked) -> Plan
-        ensures { IsPlan self.now.tree request.now.server request.now.stamp (move_entry self.now.tree request.now.stamp from to (get self.now.tree.entries from)) result }
+        ensures { IsPlan self.now.tree request.now.server request.now.stamp
+            (move_entry self.now.tree request.now.stamp from to (get self.now.tree.entries from)) result }
     {
         let Some(id) = self.entry(&from) else {
             return Plan::Refuse(Code::NotFound);
@@ -182,7 +194,8 @@ impl Tree {
     }
 
     fn plan_rename_at(&self, request: &Request, from: Walked, to: Walked) -> Plan
-        ensures { IsPlan self.now.tree request.now.server request.now.stamp (rename_at self.now.tree request.now.stamp from to) result }
+        ensures { IsPlan self.now.tree request.now.server request.now.stamp
+            (rename_at self.now.tree request.now.stamp from to) result }
     {
         match from {
             Walked::At(_, _) => Plan::Refuse(Code::IsRoot),
@@ -200,7 +213,9 @@ impl Tree {
         from: &Place,
         to: &Place,
     ) -> Result<Plan, Memory>
-        ensures { IfOk result (IsPlan self.now.tree request.now.server request.now.stamp (rename self.now.tree request.now.stamp from.now to.now)) }
+        ensures { IfOk result
+            (IsPlan self.now.tree request.now.server request.now.stamp
+            (rename self.now.tree request.now.stamp from.now to.now)) }
     {
         let source = match from.path(alloc)? {
             Ok(path) => path,

@@ -73,7 +73,8 @@ impl Names {
         Ok(())
     }
 
-    /// Puts these names before those that are left. Where memory runs out, all but the first of them may have come.
+    /// Puts these names before those that are left. Where memory runs out, all but the first of them may have
+    /// come.
     pub fn push_all(&mut self, alloc: Global, names: &Items<Name>) -> Result<(), Memory>
         ensures ok { OnOk result (self.new ≡ names.now ++ self.old) }
         ensures err { OnErr result ((without : ℕ) × (self.new ≡ drop without names.now ++ self.old)) }

@@ -45,7 +45,8 @@ pub(crate) fn touch_node(nodes: &mut ByNumber<Node>, id: u64, stamp: u64)
 
 impl Tree {
     fn plan_change(&self, request: &Request, changes: Changes, walked: Walked) -> Plan
-        ensures { IsPlan self.now.tree request.now.server request.now.stamp (setattr_at self.now.tree request.now.stamp changes walked) result }
+        ensures { IsPlan self.now.tree request.now.server request.now.stamp
+            (setattr_at self.now.tree request.now.stamp changes walked) result }
     {
         match walked {
             Walked::At(id, _) => match self.node(id.get()) {
@@ -65,7 +66,9 @@ impl Tree {
         place: &Place,
         changes: Changes,
     ) -> Result<Plan, Memory>
-        ensures { IfOk result (IsPlan self.now.tree request.now.server request.now.stamp (setattr self.now.tree request.now.stamp place.now changes)) }
+        ensures { IfOk result
+            (IsPlan self.now.tree request.now.server request.now.stamp
+            (setattr self.now.tree request.now.stamp place.now changes)) }
     {
         match place.path(alloc)? {
             Ok(path) => {

@@ -7,6 +7,7 @@ use crate::names::Names;
 use crate::node::NodePart;
 use crate::tree::Tree;
 use crate::walk::{WalkEnd, Walked};
+use fs_base::limits::LINKS_FOLLOWED;
 use fs_base::{Code, InodeId, Kind, Memory, Path, PathError, Text};
 use std::alloc::Global;
 
@@ -102,7 +103,10 @@ impl Tree {
 
     /// The names until the end, or until a link is followed.
     fn run(&self, alloc: Global, walk: &mut Walk) -> Result<Option<Walked>, Memory>
-        ensures { IfOk result (λ o. MatchOption o ((end_from self.now.tree walk.old ≡ end_from self.now.tree walk.new) × (walk.new.links + 1 ≡ walk.old.links)) (λ walked. end_from self.now.tree walk.old ≡ walked)) }
+        ensures { IfOk result
+            (λ o. MatchOption o
+            ((end_from self.now.tree walk.old ≡ end_from self.now.tree walk.new)
+            × (walk.new.links + 1 ≡ walk.old.links)) (λ walked. end_from self.now.tree walk.old ≡ walked)) }
     {
         loop {
             match self.step(alloc, walk)? {
@@ -115,7 +119,7 @@ impl Tree {
 
     /// From a directory on.
     fn go(&self, alloc: Global, walk: &mut Walk) -> Result<Walked, Memory>
-        requires { walk.old.links ≤ 10 }
+        requires { walk.old.links ≤ LINKS_FOLLOWED }
         ensures { IfOk result (λ walked. end_from self.now.tree walk.old ≡ walked) }
     {
         for followed in 0..11u8 {
@@ -126,7 +130,8 @@ impl Tree {
         unreachable!()
     }
 
-    /// Where a path leads from a base, which counts only where the path isn't absolute. It isn't looked at where a
+    /// Where a path leads from a base, which counts only where the path isn't absolute. It isn't looked at
+    /// where a
     /// last name is wanted and the path has none.
     ///
     /// At most ten links are followed.

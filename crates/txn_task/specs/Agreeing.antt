@@ -21,7 +21,8 @@ pub record Agrees (S : TypedRows) (reads : ReadSet) : Type 0 where
 -- each written key is the spelling of a valid key
 abbrev pub HaveValidKeys : List Write → Type 0
 HaveValidKeys [] = Unit {0}
-HaveValidKeys (write ∷ writes) = ((key : Key) × IsValidKey key × (write.key ≡ spelled_key key)) × HaveValidKeys writes
+HaveValidKeys (write ∷ writes) =
+    ((key : Key) × IsValidKey key × (write.key ≡ spelled_key key)) × HaveValidKeys writes
 
 -- writes of valid keys, in the order of keys
 pub record AreWrites (writes : List Write) : Type 0 where

@@ -27,11 +27,15 @@ IsNameOf bytes found = (dir : ℕ) (name : List ℕ) → IsKeyOf bytes (keys.Den
 
 -- the entry of a directory's row is found
 abbrev pub IsEntryOf : Row → Option DirEntry → Type 0
-IsEntryOf row found = (dir : ℕ) (e : List ℕ × DentRow) → AreEntries dir (e ∷ []) → row ≡ spelled_dent dir e → found ≡ Some (listed e)
+IsEntryOf row found =
+    (dir : ℕ) (e : List ℕ × DentRow) → AreEntries dir (e ∷ []) → row ≡ spelled_dent dir e
+    → found ≡ Some (listed e)
 
 -- where the rows are a directory's, their entries are added
 abbrev pub AddsEntries : List Row → List DirEntry → List DirEntry → Type 0
-AddsEntries rows old new = (dir : ℕ) (es : List (List ℕ × DentRow)) → AreEntries dir es → rows ≡ map (spelled_dent dir) es → new ≡ old ++ map listed es
+AddsEntries rows old new =
+    (dir : ℕ) (es : List (List ℕ × DentRow)) → AreEntries dir es → rows ≡ map (spelled_dent dir) es
+    → new ≡ old ++ map listed es
 
 -- the next page is to be asked for, or all rows that agree have these entries in the directory
 abbrev pub IsWantList : WantList → ReadSet → ℕ → Type 0

@@ -24,7 +24,8 @@ pub record Transaction : Type 0 where
 
 -- nothing read or written yet
 abbrev pub started : ℕ → Transaction
-started version = record { snapshot = version; reads = record { keys = []; ranges = [] }; versions = []; writes = [] }
+started version =
+    record { snapshot = version; reads = record { keys = []; ranges = [] }; versions = []; writes = [] }
 
 -- one more key, or one more range, was read
 abbrev pub with_key : ReadSet → List ℕ → Option (List ℕ) → ReadSet
@@ -36,7 +37,8 @@ with_range reads range = record reads { ranges = reads.ranges ++ range ∷ [] }
 -- the reads with what an answer tells
 abbrev pub noted : ReadSet → Ask → Answer → ReadSet
 noted reads (asks.Get key) (answers.Got got) = with_key reads (spelled_key key) got.value
-noted reads (asks.Range lo hi limit) (answers.Rows rows) = with_range reads (record { lo = lo; hi = hi; limit = limit; rows = rows })
+noted reads (asks.Range lo hi limit) (answers.Rows rows) =
+    with_range reads (record { lo = lo; hi = hi; limit = limit; rows = rows })
 noted reads ask answer = reads
 
 -- the versions with that of a key's value
@@ -45,7 +47,8 @@ dated versions (asks.Get key) (answers.Got got) = versions ++ got.version ∷ []
 dated versions ask answer = versions
 
 abbrev pub with_answer : Transaction → Ask → Answer → Transaction
-with_answer t ask answer = record t { reads = noted t.reads ask answer; versions = dated t.versions ask answer }
+with_answer t ask answer =
+    record t { reads = noted t.reads ask answer; versions = dated t.versions ask answer }
 
 -- the answer tells of a key that wasn't read, or of a range
 abbrev pub IsNews : ReadSet → Ask → Answer → Type 0

@@ -34,7 +34,8 @@ IsKeyRead reads key = (value : Option (List ℕ)) × (read_of reads.keys (spelle
 abbrev pub IsWant : {X : Type 0} → Want X → ReadSet → Key → (TypedRows → Option X) → Type 0
 IsWant (wants.Ask asked) reads key look = (asked ≡ key) × IsUnread reads key
 IsWant wants.Absent reads key look = IsKeyRead reads key × ((S : TypedRows) → Agrees S reads → look S ≡ None)
-IsWant (wants.There row) reads key look = IsKeyRead reads key × ((S : TypedRows) → Agrees S reads → look S ≡ Some row)
+IsWant (wants.There row) reads key look =
+    IsKeyRead reads key × ((S : TypedRows) → Agrees S reads → look S ≡ Some row)
 
 -- what reading a row gave, but for want of memory
 abbrev pub IsReading : {X : Type 0} → Result X ℕ → Option X → Type 0
@@ -51,11 +52,16 @@ IsFirstRead reads lo hi = (range : RangeRead) × (first_read lo hi reads.ranges 
 abbrev pub AsksFirst : List ℕ → List ℕ → List RangeRead → Ask → Type 0
 AsksFirst lo hi ranges ask = (first_read lo hi ranges ≡ None) × (ask ≡ asks.Range lo hi 1)
 
--- rows in a range: the first is to be asked for; or it was read, and all rows that agree have none there, or some
+-- rows in a range: the first is to be asked for; or it was read, and all rows that agree have none there, or
+-- some
 abbrev pub IsWantFirst : WantFirst → ReadSet → List ℕ → List ℕ → Type 0
 IsWantFirst (firsts.Ask ask) reads lo hi = AsksFirst lo hi reads.ranges ask
-IsWantFirst firsts.Empty reads lo hi = IsFirstRead reads lo hi × ((rows : List Row) → bytes.Agrees rows reads → range_rows rows lo hi ≡ [])
-IsWantFirst firsts.Used reads lo hi = IsFirstRead reads lo hi × ((rows : List Row) → bytes.Agrees rows reads → (row : Row) × (more : List Row) × (range_rows rows lo hi ≡ row ∷ more))
+IsWantFirst firsts.Empty reads lo hi =
+    IsFirstRead reads lo hi × ((rows : List Row) → bytes.Agrees rows reads → range_rows rows lo hi ≡ [])
+IsWantFirst firsts.Used reads lo hi =
+    IsFirstRead reads lo hi
+    × ((rows : List Row) → bytes.Agrees rows reads → (row : Row) × (more : List Row)
+    × (range_rows rows lo hi ≡ row ∷ more))
 
 -- the same of a directory's entries
 abbrev pub IsWantRange : WantFirst → ReadSet → ℕ → Type 0
@@ -65,4 +71,5 @@ IsWantRange firsts.Empty reads dir =
     × ((S : TypedRows) → Agrees S reads → (name : List ℕ) → get S.dents (dir, name) ≡ None)
 IsWantRange firsts.Used reads dir =
     IsFirstRead reads (dir_prefix dir) (raised (dir_prefix dir))
-    × ((S : TypedRows) → Agrees S reads → (name : List ℕ) × (row : DentRow) × (get S.dents (dir, name) ≡ Some row))
+    × ((S : TypedRows) → Agrees S reads → (name : List ℕ) × (row : DentRow)
+    × (get S.dents (dir, name) ≡ Some row))

@@ -16,7 +16,9 @@ put_at Greater new write writes later = write ∷ later
 -- the writes with the write of one key set
 abbrev pub set_write : List ℕ → Option (List ℕ) → List Write → List Write
 set_write key value [] = record { key = key; value = value } ∷ []
-set_write key value (write ∷ writes) = put_at (key_cmp key write.key) (record { key = key; value = value }) write writes (set_write key value writes)
+set_write key value (write ∷ writes) =
+    put_at (key_cmp key write.key) (record { key = key; value = value }) write writes
+    (set_write key value writes)
 
 -- what was read at a key, if it was read
 abbrev pub read_of : List KeyRead → List ℕ → Option (Option (List ℕ))
@@ -27,9 +29,11 @@ read_of (read ∷ reads) key = if is_eq (key_cmp key read.key) then Some read.va
 abbrev pub version_of : List KeyRead → List ℕ → List ℕ → Option ℕ
 version_of [] versions key = None
 version_of (read ∷ reads) [] key = None
-version_of (read ∷ reads) (version ∷ versions) key = if is_eq (key_cmp key read.key) then Some version else version_of reads versions key
+version_of (read ∷ reads) (version ∷ versions) key =
+    if is_eq (key_cmp key read.key) then Some version else version_of reads versions key
 
 -- what is written at a key, if it is
 abbrev pub written_at : List Write → List ℕ → Option (Option (List ℕ))
 written_at [] key = None
-written_at (write ∷ writes) key = if is_eq (key_cmp key write.key) then Some write.value else written_at writes key
+written_at (write ∷ writes) key =
+    if is_eq (key_cmp key write.key) then Some write.value else written_at writes key

@@ -3,7 +3,8 @@ use conflict_sets::{Got, ReadSet, WriteSet};
 use fs_base::{InodeId, Items, Reply, Request, Row, Text};
 use key_schema::Key;
 
-/// A change of the store as its journal keeps it: what was asked for, what it was answered, and the transaction.
+/// A change of the store as its journal keeps it: what was asked for, what it was answered, and the
+/// transaction.
 #[derive(Debug, Drop)]
 pub struct Entry {
     pub request: Request,
@@ -20,7 +21,8 @@ pub struct Asked {
     pub node: u8,
     /// How much the node had done by then.
     pub front: u64,
-    /// The greatest index of a chunk and this chunk's length in bytes; `None` where the node had no chunk of the inode.
+    /// The greatest index of a chunk and this chunk's length in bytes; `None` where the node had no chunk of
+    /// the inode.
     pub last: Option<(u64, u32)>,
 }
 
@@ -44,7 +46,8 @@ pub enum Ask {
         node: u8,
         inode: InodeId,
     },
-    /// On a node, the inode's chunks from index `keep` on go away. Where it `holds` the chunk before them, this gets the length `rest`.
+    /// On a node, the inode's chunks from index `keep` on go away. Where it `holds` the chunk before them,
+    /// this gets the length `rest`.
     SetEnd {
         node: u8,
         inode: InodeId,

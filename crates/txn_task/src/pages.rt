@@ -5,11 +5,9 @@ ghost use Rattle.txn_task.specs.declared.messages.Ask.TheVariants as asks;
 use crate::messages::Ask;
 use crate::txn::Txn;
 use conflict_sets::{RangeRead, compare};
+use fs_base::limits::PAGE_ROWS;
 use fs_base::{Memory, Row, Text};
 use std::alloc::Global;
-
-/// How many rows a page has at most.
-const PAGE: u32 = 128;
 
 /// Whether a range was read with these bounds and this limit.
 pub(crate) fn reads_range(range: &RangeRead, lo: &[u8], hi: &[u8], limit: u32) -> bool
@@ -20,7 +18,8 @@ pub(crate) fn reads_range(range: &RangeRead, lo: &[u8], hi: &[u8], limit: u32) -
         && compare(range.hi.as_slice(), hi).is_eq()
 }
 
-/// Right after this key. No store gives one before `lo` among the rows from there on; any answer is right then.
+/// Right after this key. No store gives one before `lo` among the rows from there on; any answer is right
+/// then.
 fn start_behind(lo: &[u8], key: &Text) -> Result<Option<Text>, Memory>
     ensures { IfOk result (λ start. start ≡ start_behind lo.now key.now) }
 {
@@ -36,7 +35,7 @@ fn start_behind(lo: &[u8], key: &Text) -> Result<Option<Text>, Memory>
 fn start_after(lo: &[u8], rows: &[Row]) -> Result<Option<Text>, Memory>
     ensures { IfOk result (λ start. start ≡ start_after lo.now rows.now) }
 {
-    if rows.len() != PAGE as usize {
+    if rows.len() != PAGE_ROWS as usize {
         return Ok(None);
     }
     match rows {
@@ -56,7 +55,7 @@ pub(crate) fn page_behind(
     let Some(start) = start else {
         return Ok(None);
     };
-    if reads_range(range, start.as_slice(), hi, PAGE) {
+    if reads_range(range, start.as_slice(), hi, PAGE_ROWS) {
         return start_after(start.as_slice(), range.rows.as_slice());
     }
     Ok(Some(start))
@@ -67,7 +66,7 @@ pub(crate) fn rows_of_page<'a>(hi: &[u8], start: &Option<Text>, range: &'a Range
     ensures { result.now ≡ rows_of_page hi.now start.now range.now }
 {
     match start {
-        Some(start) if reads_range(range, start.as_slice(), hi, PAGE) => range.rows.as_slice(),
+        Some(start) if reads_range(range, start.as_slice(), hi, PAGE_ROWS) => range.rows.as_slice(),
         _ => &[],
     }
 }
@@ -89,9 +88,9 @@ fn next_page(
 }
 
 fn page_from(lo: Text, hi: Text) -> Ask
-    ensures { result ≡ asks.Range lo hi 128 }
+    ensures { result ≡ asks.Range lo hi PAGE_ROWS }
 {
-    let limit = PAGE;
+    let limit = PAGE_ROWS;
     Ask::Range { lo, hi, limit }
 }
 

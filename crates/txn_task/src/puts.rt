@@ -26,7 +26,9 @@ pub fn kind_of(part: &InodePart) -> Kind
 
 /// Sets the row of an inode.
 pub fn put_inode(alloc: Global, txn: &mut Txn, id: InodeId, row: &InodeRow) -> Result<(), Memory>
-    ensures ok { OnOk result (txn.new ≡ record txn.old { writes = set_write (spelled_key (keys.Inode id)) (Some (spelled_inode row.now)) txn.old.writes }) }
+    ensures ok { OnOk result
+        (txn.new ≡ record txn.old
+        { writes = set_write (spelled_key (keys.Inode id)) (Some (spelled_inode row.now)) txn.old.writes }) }
     ensures err { OnErr result (txn.new ≡ txn.old) }
 {
     let bytes = row.write(alloc)?;
@@ -41,7 +43,10 @@ pub fn put_entry(
     name: &Name,
     entry: DentRow,
 ) -> Result<(), Memory>
-    ensures ok { OnOk result (txn.new ≡ record txn.old { writes = set_write (spelled_key (keys.Dent dir name.now)) (Some (spelled_dent entry)) txn.old.writes }) }
+    ensures ok { OnOk result
+        (txn.new ≡ record txn.old {
+          writes = set_write (spelled_key (keys.Dent dir name.now)) (Some (spelled_dent entry)) txn.old.writes;
+        }) }
     ensures err { OnErr result (txn.new ≡ txn.old) }
 {
     let bytes = entry.write(alloc)?;
@@ -51,7 +56,11 @@ pub fn put_entry(
 
 /// Sets the row of a server's next number.
 pub fn put_next(alloc: Global, txn: &mut Txn, server: u8, next: u64) -> Result<(), Memory>
-    ensures ok { OnOk result (txn.new ≡ record txn.old { writes = set_write (spelled_key (keys.Alloc server)) (Some (spelled_alloc (record { next = next }))) txn.old.writes }) }
+    ensures ok { OnOk result
+        (txn.new ≡ record txn.old {
+          writes = set_write (spelled_key (keys.Alloc server)) (Some (spelled_alloc (record { next = next })))
+              txn.old.writes;
+        }) }
     ensures err { OnErr result (txn.new ≡ txn.old) }
 {
     let bytes = AllocRow { next }.write(alloc)?;
@@ -60,7 +69,8 @@ pub fn put_next(alloc: Global, txn: &mut Txn, server: u8, next: u64) -> Result<(
 
 /// Takes the row of an inode away.
 pub fn remove_inode(alloc: Global, txn: &mut Txn, id: InodeId) -> Result<(), Memory>
-    ensures ok { OnOk result (txn.new ≡ record txn.old { writes = set_write (spelled_key (keys.Inode id)) None txn.old.writes }) }
+    ensures ok { OnOk result
+        (txn.new ≡ record txn.old { writes = set_write (spelled_key (keys.Inode id)) None txn.old.writes }) }
     ensures err { OnErr result (txn.new ≡ txn.old) }
 {
     txn.put(alloc, &Key::Inode(id), None)
@@ -68,7 +78,9 @@ pub fn remove_inode(alloc: Global, txn: &mut Txn, id: InodeId) -> Result<(), Mem
 
 /// Takes the row of a directory's entry away.
 pub fn remove_entry(alloc: Global, txn: &mut Txn, dir: InodeId, name: &Name) -> Result<(), Memory>
-    ensures ok { OnOk result (txn.new ≡ record txn.old { writes = set_write (spelled_key (keys.Dent dir name.now)) None txn.old.writes }) }
+    ensures ok { OnOk result
+        (txn.new ≡ record txn.old
+        { writes = set_write (spelled_key (keys.Dent dir name.now)) None txn.old.writes }) }
     ensures err { OnErr result (txn.new ≡ txn.old) }
 {
     let key = Key::Dent(dir, name.try_clone(alloc)?);
@@ -77,7 +89,9 @@ pub fn remove_entry(alloc: Global, txn: &mut Txn, dir: InodeId, name: &Name) -> 
 
 /// Sets the row of a file that is being deleted.
 pub fn put_doomed(alloc: Global, txn: &mut Txn, id: InodeId, row: GcRow) -> Result<(), Memory>
-    ensures ok { OnOk result (txn.new ≡ record txn.old { writes = set_write (spelled_key (keys.Gc id)) (Some (spelled_gc row)) txn.old.writes }) }
+    ensures ok { OnOk result
+        (txn.new ≡ record txn.old
+        { writes = set_write (spelled_key (keys.Gc id)) (Some (spelled_gc row)) txn.old.writes }) }
     ensures err { OnErr result (txn.new ≡ txn.old) }
 {
     let bytes = row.write(alloc)?;

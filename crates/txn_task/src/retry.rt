@@ -1,6 +1,7 @@
 ghost use Rattle.std.specs.Prelude.{◌≡◌, ◌≤◌, ◌∷◌, ◌++◌, [], length, nat_lt, IfOk, OnOk, OnErr};
 
 use crate::copies::copy_conflicts;
+use fs_base::limits::ATTEMPTS;
 use fs_base::{Items, Memory};
 use key_schema::Key;
 use std::alloc::Global;
@@ -21,14 +22,14 @@ impl Model for Retry {
 
     ghost view = { λ r. record { attempts = r.attempts; conflicts = r.conflicts } };
 
-    ghost invariant = { λ r. (1 ≤ r.attempts) × (r.attempts ≤ 64) };
+    ghost invariant = { λ r. (1 ≤ r.attempts) × (r.attempts ≤ ATTEMPTS) };
 }
 
 impl Retry {
     /// No conflict was met yet.
     pub fn new(alloc: Global, attempts: u8) -> Retry
         requires from { 1 ≤ attempts }
-        requires to { attempts ≤ 64 }
+        requires to { attempts ≤ ATTEMPTS }
         ensures { result ≡ record { attempts = attempts; conflicts = [] } }
     {
         Retry {
@@ -41,7 +42,8 @@ impl Retry {
     ///
     /// Without memory for it nothing is recorded.
     pub fn again(&mut self, version: u64, key: Key) -> Result<bool, Memory>
-        ensures ok { OnOk result (self.new ≡ record self.old { conflicts = self.old.conflicts ++ (version, key) ∷ [] }) }
+        ensures ok { OnOk result
+            (self.new ≡ record self.old { conflicts = self.old.conflicts ++ (version, key) ∷ [] }) }
         ensures more { IfOk result (λ more. more ≡ nat_lt (length self.new.conflicts) self.new.attempts) }
         ensures err { OnErr result (self.new ≡ self.old) }
     {

@@ -35,7 +35,12 @@ impl Model for Txn {
 
     ghost coded = { Prim.hlevel (codes, read_set.the_row.coded, write.the_row.coded) };
 
-    ghost view = { λ t. record { snapshot = t.snapshot; reads = t.reads; versions = t.versions.items; writes = t.writes.items } };
+    ghost view = { λ t. record {
+      snapshot = t.snapshot;
+      reads = t.reads;
+      versions = t.versions.items;
+      writes = t.writes.items;
+    } };
 
     ghost use Rattle.std.specs.Prelude.{◌≡◌, length};
     ghost use Rattle.conflict_sets.specs.Writes.{AreAscending};
@@ -198,7 +203,11 @@ impl Txn {
     }
 
     fn note_key(&mut self, alloc: Global, key: &Key, got: &Got) -> Result<(), Memory>
-        ensures ok { OnOk result (self.new ≡ record self.old { reads = with_key self.old.reads (spelled_key key.now) got.now.value; versions = self.old.versions ++ got.now.version ∷ [] }) }
+        ensures ok { OnOk result
+            (self.new ≡ record self.old {
+              reads = with_key self.old.reads (spelled_key key.now) got.now.value;
+              versions = self.old.versions ++ got.now.version ∷ [];
+            }) }
         ensures err { OnErr result (self.new ≡ self.old) }
     {
         let key = Text::from_vec(key.write(alloc)?);
@@ -248,7 +257,9 @@ impl Txn {
     /// Without memory for it the transaction stays as it was.
     #[tactic(auto, using(crate::proofs::WriteLaws::ascending_put, crate::proofs::TxnLaws::are_writes_put))]
     pub fn put(&mut self, alloc: Global, key: &Key, value: Option<Vec<u8>>) -> Result<(), Memory>
-        ensures ok { OnOk result (self.new ≡ record self.old { writes = set_write (spelled_key key.now) (option_map (λ v. v.items) value) self.old.writes }) }
+        ensures ok { OnOk result
+            (self.new ≡ record self.old
+            { writes = set_write (spelled_key key.now) (option_map (λ v. v.items) value) self.old.writes }) }
         ensures err { OnErr result (self.new ≡ self.old) }
         ensures valid { IsValidKey key.now → AreWrites self.old.writes → AreWrites self.new.writes }
     {

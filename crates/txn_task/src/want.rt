@@ -29,7 +29,8 @@ pub enum Want<T> {
 }
 
 fn kept_at<'a>(alloc: Global, txn: &'a Txn, key: &Key) -> Result<Option<Option<&'a [u8]>>, Memory>
-    ensures { IfOk result (λ kept. option_map (option_map (λ v. v.now)) kept ≡ read_of txn.now.reads.keys (spelled_key key.now)) }
+    ensures { IfOk result
+        (λ kept. option_map (option_map (λ v. v.now)) kept ≡ read_of txn.now.reads.keys (spelled_key key.now)) }
 {
     let bytes = key.write(alloc)?;
     Ok(txn.kept(bytes.as_slice()))
@@ -37,7 +38,8 @@ fn kept_at<'a>(alloc: Global, txn: &'a Txn, key: &Key) -> Result<Option<Option<&
 
 /// The row, or none where the bytes aren't one.
 pub(crate) fn found<T: Drop>(row: Result<T, RowError>) -> Result<Option<T>, Memory>
-    ensures read { IfOk result (λ read. (answer : Result T ℕ) → Gives place_of (λ x. x) row answer → IsReading answer read) }
+    ensures read { IfOk result
+        (λ read. (answer : Result T ℕ) → Gives place_of (λ x. x) row answer → IsReading answer read) }
     ensures memory { NeedsNoMemory place_of row → IsOk result }
 {
     match row {
@@ -69,7 +71,8 @@ pub fn want_dent(
     dir: InodeId,
     name: &Name,
 ) -> Result<Want<DentRow>, Memory>
-    ensures { IfOk result (λ want. IsWant want txn.now.reads (keys.Dent dir name.now) (λ S. get S.dents (dir, name.now))) }
+    ensures { IfOk result
+        (λ want. IsWant want txn.now.reads (keys.Dent dir name.now) (λ S. get S.dents (dir, name.now))) }
 {
     let key = Key::Dent(dir, name.try_clone(alloc)?);
     match kept_at(alloc, txn, &key)? {
