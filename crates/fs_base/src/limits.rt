@@ -1,6 +1,13 @@
 //! The limits of the service, each once: the greatest number that is taken, or where it says so the first one
 //! that isn't.
 
+/// Bytes of a scenario: 16 MiB.
+pub const SCENARIO_BYTES: usize = 16_777_216;
+/// Clients of a plan.
+pub const CLIENTS: usize = 64;
+/// Operations of all clients of a plan.
+pub const OPERATIONS: usize = 4_000;
+
 /// Metadata servers of a configuration.
 pub const SERVERS: u8 = 16;
 /// Storage nodes of a configuration.
