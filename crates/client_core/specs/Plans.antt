@@ -3,6 +3,7 @@ use Rattle.std.specs.Prelude.{◌≡◌, ◌⊎◌, ◌≤◌, ◌<◌, ◌+◌,
 use Rattle.fs_base.specs.declared.call.Changes.{Changes}
 use Rattle.fs_base.specs.declared.call.Place.{Place}
 use Rattle.fs_base.specs.declared.layout.DefaultLayout.{DefaultLayout}
+use Rattle.fs_base.specs.declared.limits.TheConstants.{ATTEMPTS, CLIENTS, INODE_IDS, MODES, OPERATIONS, TEXT_BYTES, TIMES}
 use Rattle.client_core.specs.declared.plan.Op.{Op}
 use Rattle.client_core.specs.declared.plan.Op.TheVariants as ops
 use Rattle.client_core.specs.declared.plan.Plan.{Plan}
@@ -15,8 +16,8 @@ abbrev pub IsBelow : ℕ → Option ℕ → Type 0
 IsBelow limit given = IfSome given (λ n. n < limit)
 
 pub record IsPlace (place : Place) : Type 0 where
-  pub base_below : place.base < 2 ^ 36
-  pub text_short : length place.text ≤ 65535
+  pub base_below : place.base < INODE_IDS
+  pub text_short : length place.text ≤ TEXT_BYTES
 
 -- no limits of a layout but those of its numbers: BadLayout is the call's own answer
 pub record IsLayout (layout : DefaultLayout) : Type 0 where
@@ -24,25 +25,25 @@ pub record IsLayout (layout : DefaultLayout) : Type 0 where
   pub stripe_below : layout.stripe < 2 ^ 16
 
 pub record IsChanges (changes : Changes) : Type 0 where
-  pub mode_below : IsBelow 4096 changes.mode
+  pub mode_below : IsBelow MODES changes.mode
   pub owner_below : IsBelow (2 ^ 32) changes.owner
   pub group_below : IsBelow (2 ^ 32) changes.group
-  pub atime_below : IsBelow (2 ^ 53) changes.atime
-  pub mtime_below : IsBelow (2 ^ 53) changes.mtime
+  pub atime_below : IsBelow TIMES changes.atime
+  pub mtime_below : IsBelow TIMES changes.mtime
 
 -- each number and text is in its range
 abbrev pub IsOp : Op → Type 0
-IsOp (ops.Mkdir stamp place mode layout) = (stamp < 2 ^ 53) × IsPlace place × (mode < 4096) × IfSome layout IsLayout
-IsOp (ops.Create stamp place mode layout) = (stamp < 2 ^ 53) × IsPlace place × (mode < 4096) × IfSome layout IsLayout
-IsOp (ops.Symlink stamp place target) = (stamp < 2 ^ 53) × IsPlace place × (length target ≤ 65535)
-IsOp (ops.Setattr stamp place changes) = (stamp < 2 ^ 53) × IsPlace place × IsChanges changes
-IsOp (ops.Link stamp from to) = (stamp < 2 ^ 53) × IsPlace from × IsPlace to
-IsOp (ops.Unlink stamp place) = (stamp < 2 ^ 53) × IsPlace place
-IsOp (ops.Rmdir stamp place) = (stamp < 2 ^ 53) × IsPlace place
-IsOp (ops.Lookup stamp place) = (stamp < 2 ^ 53) × IsPlace place
-IsOp (ops.Stat stamp place) = (stamp < 2 ^ 53) × IsPlace place
-IsOp (ops.List stamp place) = (stamp < 2 ^ 53) × IsPlace place
-IsOp (ops.Readlink stamp place) = (stamp < 2 ^ 53) × IsPlace place
+IsOp (ops.Mkdir stamp place mode layout) = (stamp < TIMES) × IsPlace place × (mode < MODES) × IfSome layout IsLayout
+IsOp (ops.Create stamp place mode layout) = (stamp < TIMES) × IsPlace place × (mode < MODES) × IfSome layout IsLayout
+IsOp (ops.Symlink stamp place target) = (stamp < TIMES) × IsPlace place × (length target ≤ TEXT_BYTES)
+IsOp (ops.Setattr stamp place changes) = (stamp < TIMES) × IsPlace place × IsChanges changes
+IsOp (ops.Link stamp from to) = (stamp < TIMES) × IsPlace from × IsPlace to
+IsOp (ops.Unlink stamp place) = (stamp < TIMES) × IsPlace place
+IsOp (ops.Rmdir stamp place) = (stamp < TIMES) × IsPlace place
+IsOp (ops.Lookup stamp place) = (stamp < TIMES) × IsPlace place
+IsOp (ops.Stat stamp place) = (stamp < TIMES) × IsPlace place
+IsOp (ops.List stamp place) = (stamp < TIMES) × IsPlace place
+IsOp (ops.Readlink stamp place) = (stamp < TIMES) × IsPlace place
 
 -- ---- scripts
 
@@ -50,7 +51,7 @@ IsOp (ops.Readlink stamp place) = (stamp < 2 ^ 53) × IsPlace place
 pub record IsScript (servers : ℕ) (script : Script) : Type 0 where
   pub small : script.id.0 < 2 ^ 128
   pub home : script.home < servers
-  pub short : length script.ops ≤ 4000
+  pub short : length script.ops ≤ OPERATIONS
   pub valid : All IsOp script.ops
 
 -- the id isn't the nil one
@@ -76,11 +77,11 @@ IsSchedule count (Items items) = All (NamesClient count) items
 
 pub record IsPlan (plan : Plan) : Type 0 where
   pub attempts_from : 1 ≤ plan.attempts
-  pub attempts_to : plan.attempts ≤ 64
+  pub attempts_to : plan.attempts ≤ ATTEMPTS
   pub some : 1 ≤ length plan.clients
-  pub few : length plan.clients ≤ 64
+  pub few : length plan.clients ≤ CLIENTS
   pub scripts : All (IsScript plan.config.servers) plan.clients
   pub ids : All HasId plan.clients
   pub distinct : AreDistinct plan.clients
-  pub short : ops_in plan.clients ≤ 4000
+  pub short : ops_in plan.clients ≤ OPERATIONS
   pub schedule : IsSchedule (length plan.clients) plan.schedule

@@ -6,6 +6,7 @@ ghost use Rattle.meta_task.specs.Task.{new_task, MayTake, Asks, HasOutcome};
 
 use crate::state::State;
 use crate::waiting::Waiting;
+use fs_base::limits::ATTEMPTS;
 use fs_base::{Config, Memory, Request};
 use std::alloc::Global;
 use std::marker::Model;
@@ -42,7 +43,7 @@ impl MetaTask {
     ) -> Result<MetaTask, Memory>
         requires valid { IsRequest config request }
         requires from { 1 ≤ attempts }
-        requires to { attempts ≤ 64 }
+        requires to { attempts ≤ ATTEMPTS }
         ensures { IfOk result (λ task. task ≡ new_task config attempts request) }
     {
         let state = State {

@@ -5,6 +5,7 @@ use Rattle.std.specs.Io.KnownBytes.{Appends, Consumes, IsAtEnd, Keeps}
 use Rattle.std.specs.declared.alloc.Global.{Global}
 use Rattle.fs_io.specs.Causes.{Rose}
 use Rattle.fs_io.specs.Reading.{ReadsToEnd}
+use Rattle.fs_base.specs.declared.limits.TheConstants.{SCENARIO_BYTES}
 use Rattle.client_core.specs.declared.plan.Plan.{Plan}
 use Rattle.client_core.specs.declared.plan.Script.{Script}
 use Rattle.run_record.specs.Replies.{replies_text}
@@ -48,7 +49,7 @@ pub record IsRunOf (plan : Plan) (text : List ℕ) : Type 0 where
 -- the input reads as a plan, and the text is that of its run
 pub record IsRun (old new : Option (List ℕ)) (text : List ℕ) : Type 0 where
   pub bytes : List ℕ
-  pub whole : ReadsToEnd old new bytes 16777216
+  pub whole : ReadsToEnd old new bytes SCENARIO_BYTES
   pub plan : Plan
   pub reads : scenario_of bytes ≡ Ok plan
   pub runs : IsRunOf plan text
@@ -57,7 +58,7 @@ pub record IsRun (old new : Option (List ℕ)) (text : List ℕ) : Type 0 where
 pub record IsBad (old new : Option (List ℕ)) (text : List ℕ) : Type 0 where
   pub bytes : List ℕ
   pub came : Consumes old new bytes
-  pub whole : IsAtEnd new ⊎ (16777216 < length bytes)
+  pub whole : IsAtEnd new ⊎ (SCENARIO_BYTES < length bytes)
   pub broken : Broken
   pub breaks : scenario_of bytes ≡ Err broken
   pub written : text ≡ bad_line broken

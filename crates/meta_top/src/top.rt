@@ -5,6 +5,7 @@ ghost use Rattle.meta_top.specs.Top.{is_step, usage_line, bad_line, IsRunOf, IsD
 
 use client_core::Plan;
 use fs_base::Memory;
+use fs_base::limits::SCENARIO_BYTES;
 use fs_io::{ReadAllError, Sink, Source, read_all, write_all};
 use run_record::write_replies;
 use scenario::{Broken, ScenarioError, read_scenario, too_long};
@@ -79,7 +80,7 @@ fn due_answer<I: Source>(
     if !is_step(words) {
         return usage(alloc);
     }
-    match read_all(alloc, input, 16_777_216) {
+    match read_all(alloc, input, SCENARIO_BYTES as u64) {
         Ok(bytes) => step(alloc, bytes.as_slice()),
         Err(ReadAllError::TooLong) => bad(alloc, too_long()),
         Err(ReadAllError::ReadFault) => Err(ReadAllError::ReadFault),

@@ -1,4 +1,4 @@
-ghost use Rattle.std.specs.Prelude.{◌≡◌, ◌<◌, ◌^◌, ◌↔◌, [], IsTrue, IfOk, OnOk};
+ghost use Rattle.std.specs.Prelude.{◌≡◌, ◌<◌, ◌↔◌, [], IsTrue, IfOk, OnOk};
 ghost use Rattle.fs_base.specs.declared.kind.Kind.{Kind};
 ghost use Rattle.tree_model.specs.declared.walk.Walked.TheVariants.{At};
 ghost use Rattle.op_attr.specs.declared.task.AttrCall.TheVariants as attr;
@@ -6,6 +6,7 @@ ghost use Rattle.op_attr.specs.Attr.{MaySet};
 ghost use Rattle.op_attr.specs.Changing.{changed_row, PutsChanged};
 ghost use Rattle.op_attr.specs.Ending.{IsEndStep};
 
+use fs_base::limits::INODE_IDS;
 use fs_base::{Changes, Code, InodeId, Items, Memory, Reply};
 use inode_record::InodeRow;
 use std::alloc::Global;
@@ -57,7 +58,7 @@ fn put_changed(
 
 /// An inode's number is below 2^36.
 fn in_range(id: InodeId)
-    ensures { id < 2 ^ 36 }
+    ensures { id < INODE_IDS }
 {
     let _id = id.get();
 }

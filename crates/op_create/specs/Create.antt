@@ -1,9 +1,10 @@
 -- What a call that makes a node comes to while it is under way, and what it still reads.
-use Rattle.std.specs.Prelude.{◌≡◌, ◌^◌, ◌<◌, true, List}
+use Rattle.std.specs.Prelude.{◌≡◌, ◌<◌, true, List}
 use Rattle.conflict_sets.specs.declared.sets.ReadSet.{ReadSet}
 use Rattle.fs_base.specs.Config.{Settings}
 use Rattle.fs_base.specs.declared.call.Call.{Call}
 use Rattle.fs_base.specs.declared.call.Call.TheVariants as calls
+use Rattle.fs_base.specs.declared.limits.TheConstants.{MODES, SERVERS, TIMES}
 use Rattle.row_tree.specs.NewRows.{IsPart}
 use Rattle.row_tree.specs.TypedRows.{TypedRows}
 use Rattle.row_tree.specs.WellFormed.{IsWellFormed}
@@ -57,7 +58,7 @@ IsWalkReady C node (Walking walk) = IsMaking C node
 
 -- numbers in their ranges, and past the words where the walk is under way
 abbrev pub IsReady : CreateTask → Type 0
-IsReady task = (task.server < 16) × (task.node.mode < 4096) × (task.stamp < 2 ^ 53) × IsWalkReady task.config task.node task.stage
+IsReady task = (task.server < SERVERS) × (task.node.mode < MODES) × (task.stamp < TIMES) × IsWalkReady task.config task.node task.stage
 
 -- where well-formed rows agree with the reads, the way has come past the words
 abbrev pub HasComeTo : CreateTask → ReadSet → Type 0

@@ -1,4 +1,4 @@
-ghost use Rattle.std.specs.Prelude.{◌≡◌, ◌^◌, ◌<◌, ◌≤◌, [], unwrap_or, IfOk, OnOk, IsTrue};
+ghost use Rattle.std.specs.Prelude.{◌≡◌, ◌<◌, ◌≤◌, [], unwrap_or, IfOk, OnOk, IsTrue};
 ghost use Rattle.fs_base.specs.Names.{is_name};
 ghost use Rattle.tree_model.specs.Creating.{id_of};
 ghost use Rattle.tree_model.specs.declared.walk.Walked.TheVariants.{AtParent};
@@ -8,6 +8,7 @@ ghost use Rattle.row_tree.specs.NewRows.{new_row, row_part};
 ghost use Rattle.op_create.specs.NewRows.{MayMake, node_puts};
 
 use crate::task::CreateTask;
+use fs_base::limits::{CHAINS, INODE_IDS, LAST_NUMBER, SERVERS};
 use fs_base::{Code, Config, DefaultLayout, InodeId, Items, Limit, Memory, Name, Reply};
 use inode_record::{InodePart, InodeRow};
 use row_records::DentRow;
@@ -17,8 +18,8 @@ use txn_task::{OpStep, Txn, kind_of, put_entry, put_inode, put_next};
 
 /// A chain is one of at most 256, an inode's number below 2^36, and a name one of those that may be.
 fn in_range(config: &Config, dir: InodeId, name: &Name)
-    ensures chains { config.now.chains ≤ 256 }
-    ensures dir { dir < 2 ^ 36 }
+    ensures chains { config.now.chains ≤ CHAINS }
+    ensures dir { dir < INODE_IDS }
     ensures name { IsTrue (is_name name.now) }
 {
     let _chains = config.chains();
@@ -89,8 +90,8 @@ impl CreateTask {
         layout: DefaultLayout,
         number: u64,
     ) -> Result<InodeId, Memory>
-        requires server { self.now.server < 16 }
-        requires number { number < 4294967295 }
+        requires server { self.now.server < SERVERS }
+        requires number { number < LAST_NUMBER }
         requires writes { txn.old.writes ≡ [] }
         ensures id { IfOk result (λ id. id ≡ id_of number self.now.server) }
         ensures puts { OnOk result (txn.new ≡ record txn.old { writes = put_writes (node_puts self.now dir name.now layout number) }) }
@@ -120,7 +121,7 @@ impl CreateTask {
         requires may { MayMake self.now txn.old.reads dir name.now default number }
         ensures { IfOk result (IsEndStep self.now (AtParent dir name.now) txn.old txn.new) }
     {
-        if number >= 4_294_967_295 {
+        if number >= u64::from(LAST_NUMBER) {
             return Ok(OpStep::Reply(Reply::Refused(Code::AtLimit(Limit::Inodes))));
         }
         in_range(&self.config, dir, name);

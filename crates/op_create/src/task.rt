@@ -8,6 +8,7 @@ ghost use Rattle.path_walk.specs.Requests.{IsRequest};
 ghost use Rattle.op_create.specs.Beginning.{HasTarget, IsMade};
 ghost use Rattle.op_create.specs.Create.{IsCreateCall, IsReady, areas_of, effect_of};
 
+use fs_base::limits::SERVERS;
 use fs_base::{Call, Code, Config, Memory, Place, Request, Text};
 use path_walk::Stage;
 use std::alloc::Global;
@@ -64,7 +65,7 @@ fn node_fault(alloc: Global, config: &Config, node: &NewNode) -> Result<Option<C
 
 /// A server is one of at most sixteen.
 fn few_servers(config: &Config)
-    ensures { config.now.servers ≤ 16 }
+    ensures { config.now.servers ≤ SERVERS }
 {
     let _servers = config.servers();
 }

@@ -4,6 +4,7 @@ ghost use Rattle.tree_model.specs.declared.walk.Walked.TheVariants.{AtParent};
 ghost use Rattle.op_link.specs.Ending.{IsInDir, IsJoinStep, IsSource, MayJoin};
 
 use crate::rows::{in_range, put_joined, recounted};
+use fs_base::limits::LINK_COUNT;
 use fs_base::{Code, InodeId, Items, Limit, Memory, Name, Reply};
 use inode_record::{InodePart, InodeRow};
 use key_schema::Key;
@@ -106,7 +107,7 @@ fn put_link(
     requires may { MayJoin txn.old.reads dir name.now id row }
     ensures { IfOk result (IsJoinStep id stamp (AtParent dir name.now) txn.old txn.new) }
 {
-    if row.links >= 65_535 {
+    if row.links >= LINK_COUNT {
         return Ok(OpStep::Reply(Reply::Refused(Code::AtLimit(Limit::Links))));
     }
     in_range(dir, name, id);

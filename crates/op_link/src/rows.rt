@@ -1,9 +1,10 @@
-ghost use Rattle.std.specs.Prelude.{◌≡◌, ◌^◌, ◌<◌, [], IsTrue, OnOk};
+ghost use Rattle.std.specs.Prelude.{◌≡◌, ◌<◌, [], IsTrue, OnOk};
 ghost use Rattle.fs_base.specs.Names.{is_name};
 ghost use Rattle.path_walk.specs.Puts.{put_writes};
 ghost use Rattle.row_tree.specs.Steps as rows;
 ghost use Rattle.op_link.specs.Puts.{gone_puts, join_puts, left_puts, waiting_puts};
 
+use fs_base::limits::INODE_IDS;
 use fs_base::{InodeId, Memory, Name};
 use inode_record::InodeRow;
 use row_records::{DentRow, GcRow};
@@ -12,9 +13,9 @@ use txn_task::{Txn, kind_of, put_doomed, put_entry, put_inode, remove_entry, rem
 
 /// An inode's number is below 2^36, and a name one of those that may be.
 pub(crate) fn in_range(dir: InodeId, name: &Name, id: InodeId)
-    ensures dir { dir < 2 ^ 36 }
+    ensures dir { dir < INODE_IDS }
     ensures name { IsTrue (is_name name.now) }
-    ensures id { id < 2 ^ 36 }
+    ensures id { id < INODE_IDS }
 {
     let _dir = dir.get();
     let _name = name.bytes();

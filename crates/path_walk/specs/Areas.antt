@@ -1,6 +1,7 @@
 -- Keys and ranges in the order of a call's asks: what of them was read, and which ask is the next.
 use Rattle.std.specs.Prelude.{◌≡◌, ◌⊎◌, ℕ, IsTrue, List, [], ◌∷◌, ◌++◌, map, Some, None}
 use Rattle.std.specs.Ordering.{is_le}
+use Rattle.fs_base.specs.declared.limits.TheConstants.{PAGE_ROWS}
 use Rattle.conflict_sets.specs.Keys.{key_cmp}
 use Rattle.conflict_sets.specs.declared.sets.ReadSet.{ReadSet}
 use Rattle.key_schema.specs.declared.key.Key.{Key}
@@ -57,7 +58,7 @@ AreRead reads (area ∷ areas) = IsRead reads area × AreRead reads areas
 abbrev pub IsAskOf : ReadSet → Area → Ask → Type 0
 IsAskOf reads (OneKey key) (asks.Get other) = (other ≡ key) × IsUnread reads key
 IsAskOf reads (FirstRow lo hi) (asks.Range from to limit) = (from ≡ lo) × (to ≡ hi) × (limit ≡ 1) × (first_read lo hi reads.ranges ≡ None)
-IsAskOf reads (Pages lo hi) (asks.Range from to limit) = (to ≡ hi) × (limit ≡ 128) × (next_page hi (Some lo) reads.ranges ≡ Some from)
+IsAskOf reads (Pages lo hi) (asks.Range from to limit) = (to ≡ hi) × (limit ≡ PAGE_ROWS) × (next_page hi (Some lo) reads.ranges ≡ Some from)
 IsAskOf reads area ask = ⊥
 
 -- the ask for the first area that wasn't read whole

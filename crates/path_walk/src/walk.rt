@@ -5,6 +5,7 @@ ghost use Rattle.tree_model.specs.Walk.{at_file, is_last_of_parent, is_last_unfo
 ghost use Rattle.path_walk.specs.Walks.{IsStart, trip_of, KeepsTrip, IsWalkStep, IsEnd, IsMove, IsAtLink, IsFollowed, walk_refusal};
 ghost use Rattle.path_walk.specs.declared.walk.WalkError.TheVariants as errors;
 
+use fs_base::limits::LINKS_FOLLOWED;
 use fs_base::{Code, InodeId, Kind, Memory, Name, Path, PathError, Place, Text};
 use inode_record::InodePart;
 use std::alloc::Global;
@@ -136,7 +137,7 @@ impl Walk {
         Ok(Walk {
             end,
             at_base: end.looks_at_base(here, &rest),
-            links: 10,
+            links: LINKS_FOLLOWED,
             here,
             rest,
             failed: false,

@@ -3,6 +3,7 @@ use Rattle.std.specs.Prelude.{◌≡◌, ◌≤◌, ℕ, ◌+◌, List, [], ◌�
 use Rattle.conflict_sets.specs.Reads as bytes
 use Rattle.conflict_sets.specs.Rows.{value_at_key, rows_between}
 use Rattle.fs_base.specs.Config.{Settings}
+use Rattle.fs_base.specs.declared.limits.TheConstants.{JOURNAL_ENTRIES}
 use Rattle.key_schema.specs.Keys.{spelled_key, IsKeyOf, IsSpellable}
 use Rattle.key_schema.specs.declared.key.Key.{Key}
 use Rattle.kv_store.specs.declared.store.CommitError.{CommitError}
@@ -34,7 +35,7 @@ IsAnswer C old new snapshot (asks.Range lo hi limit) (answers.Rows rows) = (new 
 IsAnswer C old new snapshot (asks.Commit entry) (answers.Committed version) =
     (new ≡ old ++ entry ∷ []) × (version ≡ length old + 1) × (first_later writes_of old snapshot entry.reads ≡ None)
 IsAnswer C old new snapshot (asks.Commit entry) (answers.Conflict version key) = (new ≡ old) × (first_later writes_of old snapshot entry.reads ≡ Some (version, spelled_key key))
-IsAnswer C old new snapshot (asks.Commit entry) answers.StoreFull = (new ≡ old) × (first_later writes_of old snapshot entry.reads ≡ None) × (length old ≡ 200000)
+IsAnswer C old new snapshot (asks.Commit entry) answers.StoreFull = (new ≡ old) × (first_later writes_of old snapshot entry.reads ≡ None) × (length old ≡ JOURNAL_ENTRIES)
 IsAnswer C old new snapshot ask answer = ⊥
 
 -- a conflict is told with a key of the store

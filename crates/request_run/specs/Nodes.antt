@@ -6,6 +6,7 @@ use Rattle.chunk_node.specs.declared.history.Done.{Done}
 use Rattle.chunk_node.specs.declared.history.Done.TheVariants as done
 use Rattle.chunk_node.specs.declared.node.NodeError.TheVariants as errors
 use Rattle.fs_base.specs.declared.ids.ClientId.{ClientId}
+use Rattle.fs_base.specs.declared.limits.TheConstants.{CHUNK_BYTES}
 use Rattle.txn_task.specs.declared.messages.Answer.{Answer}
 use Rattle.txn_task.specs.declared.messages.Answer.TheVariants as answers
 use Rattle.txn_task.specs.declared.messages.Ask.{Ask}
@@ -14,7 +15,7 @@ use Rattle.txn_task.specs.declared.messages.Ask.TheVariants as asks
 -- the ask is one of a node, its numbers in their ranges
 abbrev pub MayAnswerAtNode : Ask → Type 0
 MayAnswerAtNode (asks.Query node inode) = Unit {0}
-MayAnswerAtNode (asks.SetEnd node inode keep rest holds) = (holds ≡ true → 1 ≤ keep) × (rest ≤ 4194304)
+MayAnswerAtNode (asks.SetEnd node inode keep rest holds) = (holds ≡ true → 1 ≤ keep) × (rest ≤ CHUNK_BYTES)
 MayAnswerAtNode (asks.Remove node inode version) = Unit {0}
 MayAnswerAtNode ask = ⊥
 

@@ -15,6 +15,7 @@ ghost use Rattle.request_run.specs.Answered.{HasKey, IsAnswer, IsKeyed, IsSpelle
 ghost use Rattle.request_run.specs.Entries.{entries_of, with_entry};
 ghost use Rattle.request_run.specs.Sound.{IsOpen, IsSoundJournal};
 
+use fs_base::limits::JOURNAL_ENTRIES;
 use fs_base::{ClientId, Memory, Text};
 use key_schema::{Key, KeyError};
 use kv_store::{CommitError, KvState, Refused};
@@ -26,7 +27,7 @@ use txn_task::{Answer, Ask, Entry};
 pub fn sound_store(store: &KvState<MetaEntry>)
     requires { IsOpen store.now }
     ensures sound { IsSoundJournal store.now.config (entries_of store.now.journal) }
-    ensures few { length store.now.journal ≤ 200000 }
+    ensures few { length store.now.journal ≤ JOURNAL_ENTRIES }
 {
     store.facts();
 }

@@ -6,13 +6,14 @@ ghost use Rattle.txn_task.specs.declared.messages.Ask.TheVariants as asks;
 ghost use Rattle.request_run.specs.Nodes.{IsNodeAnswer, MayAnswerAtNode};
 
 use chunk_node::{EndDone, NodeError, NodeState};
+use fs_base::limits::CHUNK_BYTES;
 use fs_base::{ClientId, InodeId, Memory};
 use txn_task::{Answer, Ask, Asked};
 
 /// Cuts the inode's chunks, or is refused.
 fn set_end(node: &mut NodeState, ask: EndDone) -> Result<Answer, Memory>
     requires holds { ask.holds ≡ true → 1 ≤ ask.keep }
-    requires short { ask.rest ≤ 4194304 }
+    requires short { ask.rest ≤ CHUNK_BYTES }
     ensures answer { (at : _) → IfOk result (λ a. IsNodeAnswer node.old node.new ask.client ask.number (asks.SetEnd at ask.inode ask.keep ask.rest ask.holds) a) }
     ensures err { OnErr result (node.new ≡ node.old) }
 {

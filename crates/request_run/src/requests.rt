@@ -12,6 +12,7 @@ ghost use Rattle.txn_task.specs.declared.messages.Ask.TheVariants as asks;
 
 use crate::answers::sound_store;
 use crate::exchanges::exchange;
+use fs_base::limits::{ATTEMPTS, JOURNAL_ENTRIES};
 use fs_base::{Config, Memory, Request};
 use kv_store::KvState;
 use meta_task::{MetaEntry, MetaTask};
@@ -39,7 +40,7 @@ pub fn begin(
     requires valid { IsRequest config request }
     requires small { request.client.0 < 2 ^ 128 }
     requires from { 1 ≤ attempts }
-    requires to { attempts ≤ 64 }
+    requires to { attempts ≤ ATTEMPTS }
     requires earlier { AreEarlier (entries_of store.now.journal) request }
     ensures task { IfOk result (λ begun. begun.task ≡ record (new_task config attempts request) { waiting = waits.Beginning }) }
     ensures ask { IfOk result (λ begun. begun.ask ≡ asks.Begin) }
@@ -68,7 +69,7 @@ pub fn serve(
     ensures exchanged { IfOk result (λ next. IsExchange store.old.config (entries_of store.old.journal) (entries_of store.new.journal) serving.task serving.ask next.task next.ask) }
     ensures front { IfOk result (λ next. next.front ≡ serving.front) }
     ensures grows { IsGrowth store.old store.new serving.task.request.client }
-    ensures few { OnOk result (length store.new.journal ≤ 200000) }
+    ensures few { OnOk result (length store.new.journal ≤ JOURNAL_ENTRIES) }
     ensures covered { AreCovered store.old.config (entries_of store.old.journal) → OnOk result (AreCovered store.old.config (entries_of store.new.journal)) }
 {
     sound_store(store);

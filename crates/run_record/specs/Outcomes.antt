@@ -4,6 +4,7 @@ use Rattle.fs_base.specs.Config.{Settings}
 use Rattle.fs_base.specs.declared.call.Call.{Call}
 use Rattle.fs_base.specs.declared.call.Request.{Request}
 use Rattle.fs_base.specs.declared.code.Code.TheVariants as codes
+use Rattle.fs_base.specs.declared.limits.TheConstants.{JOURNAL_ENTRIES}
 use Rattle.fs_base.specs.declared.reply.Reply.{Reply}
 use Rattle.fs_base.specs.declared.reply.Reply.TheVariants.{Refused}
 use Rattle.key_schema.specs.declared.key.Key.{Key}
@@ -59,7 +60,7 @@ pub record IsSpent (front : ℕ) (outcome : Outcome) : Type 0 where
 -- the journal takes no more
 pub record IsFull (journal : List Entry) (front : ℕ) (outcome : Outcome) : Type 0 where
   pub from : last_version front outcome.conflicts ≤ outcome.version
-  pub full : length journal ≡ 200000
+  pub full : length journal ≡ JOURNAL_ENTRIES
 
 -- what is owed with each reply
 abbrev pub Shows : Settings → List Entry → Request → ℕ → Outcome → Reply → Type 0

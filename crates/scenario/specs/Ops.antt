@@ -6,6 +6,7 @@ use Rattle.fs_base.specs.Gives.{◌>>=◌}
 use Rattle.fs_base.specs.declared.call.Changes.{Changes}
 use Rattle.fs_base.specs.declared.call.Place.{Place}
 use Rattle.fs_base.specs.declared.layout.DefaultLayout.{DefaultLayout}
+use Rattle.fs_base.specs.declared.limits.TheConstants.{INODE_IDS, MODES, TEXT_BYTES, TIMES}
 use Rattle.serde_json.specs.Data.{Data}
 use Rattle.scenario.specs.Broken.{not_built, need}
 use Rattle.scenario.specs.Json.{has_only, text_at}
@@ -51,13 +52,13 @@ keys_of kind = codes "op" ∷ codes "time" ∷ codes "path" ∷ codes "dir" ∷ 
 abbrev pub short_text : List ℕ → Data → Result (List ℕ) Broken
 short_text name d = do
   text ← ok_or (text_at name d) not_built
-  fits ← need (nat_le (length text) 65535) not_built
+  fits ← need (nat_le (length text) TEXT_BYTES) not_built
   Ok text
 
 -- a base, which is the root where none is given, and a path's text
 abbrev pub place_at : List ℕ → List ℕ → Data → Result Place Broken
 place_at dir path d = do
-  base ← number_or dir (2 ^ 36) 0 d
+  base ← number_or dir INODE_IDS 0 d
   text ← short_text path d
   Ok (record { base = base; text = text })
 
@@ -82,17 +83,17 @@ layout_of d = do
 
 abbrev pub making_of : ℕ → Data → Result Making Broken
 making_of default d = do
-  mode ← number_or (codes "mode") 4096 default d
+  mode ← number_or (codes "mode") MODES default d
   layout ← layout_of d
   Ok (record { mode = mode; layout = layout })
 
 unfoldable pub changes_of : Data → Result Changes Broken
 changes_of d = do
-  mode ← number_at (codes "mode") 4096 d
+  mode ← number_at (codes "mode") MODES d
   owner ← number_at (codes "uid") (2 ^ 32) d
   group ← number_at (codes "gid") (2 ^ 32) d
-  atime ← number_at (codes "atime") (2 ^ 53) d
-  mtime ← number_at (codes "mtime") (2 ^ 53) d
+  atime ← number_at (codes "atime") TIMES d
+  mtime ← number_at (codes "mtime") TIMES d
   Ok (record { mode = mode; owner = owner; group = group; atime = atime; mtime = mtime })
 
 -- 493 is rwxr-xr-x, 420 is rw-r--r--
@@ -114,6 +115,6 @@ op_of d = do
   name ← ok_or (text_at (codes "op") d) not_built
   kind ← ok_or (kind_of name) not_built
   keys ← need (has_only (keys_of kind) d) not_built
-  stamp ← number_or (codes "time") (2 ^ 53) 0 d
+  stamp ← number_or (codes "time") TIMES 0 d
   place ← first_place d
   op_with kind stamp place d

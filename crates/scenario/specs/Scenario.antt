@@ -7,6 +7,7 @@ use Rattle.std.specs.Int.{w128, from_be_bytes}
 use Rattle.fs_base.specs.Config.{Settings}
 use Rattle.fs_base.specs.Gives.{◌>>=◌, each_from}
 use Rattle.fs_base.specs.declared.ids.ClientId.{ClientId}
+use Rattle.fs_base.specs.declared.limits.TheConstants.{ATTEMPTS, CHAINS, CHUNK_BYTES, CLIENTS, NODES, OPERATIONS, SCENARIO_BYTES, SERVERS}
 use Rattle.serde_json.specs.Data.{Data}
 use Rattle.serde_json.specs.Read.{read}
 use Rattle.uuid.specs.Text.{parsed}
@@ -23,7 +24,7 @@ use Rattle.client_core.specs.declared.plan.Script.{Script}
 
 -- at most 16 MiB
 abbrev pub short_enough : List ℕ → Result (List ℕ) Broken
-short_enough bytes = if nat_lt 16777216 (length bytes) then Err (rule 1 16777216) else Ok bytes
+short_enough bytes = if nat_lt SCENARIO_BYTES (length bytes) then Err (rule 1 SCENARIO_BYTES) else Ok bytes
 
 -- one JSON text, nested no deeper than 127, by `serde_json`'s contract: a number too great for a float or a
 -- lone surrogate makes it none
@@ -44,7 +45,7 @@ id_in text = option_and_then (λ bytes. client_of (from_be_bytes w128 bytes)) (p
 abbrev pub ops_at : Data → Result (List Op) Broken
 ops_at d = do
   list ← ok_or (array_at (codes "ops") d) not_built
-  few ← need (nat_le (length list) 4000) not_built
+  few ← need (nat_le (length list) OPERATIONS) not_built
   ops_of list
 
 -- the servers take the clients in turn, where a client names none
@@ -76,10 +77,10 @@ are_distinct (script ∷ scripts) = not (has_id script.id scripts) && are_distin
 unfoldable pub clients_of : ℕ → Data → Result (List Script) Broken
 clients_of servers d = do
   list ← ok_or (array_at (codes "clients") d) not_built
-  few ← need (nat_le 1 (length list) && nat_le (length list) 64) not_built
+  few ← need (nat_le 1 (length list) && nat_le (length list) CLIENTS) not_built
   scripts ← scripts_of servers list
   distinct ← need (are_distinct scripts) not_built
-  short ← need (nat_le (ops_in scripts) 4000) not_built
+  short ← need (nat_le (ops_in scripts) OPERATIONS) not_built
   Ok scripts
 
 -- ---- the plan
@@ -87,10 +88,10 @@ clients_of servers d = do
 -- each may be left out
 unfoldable pub config_of : Data → Result Settings Broken
 config_of d = do
-  servers ← count_or (codes "servers") 16 1 d
-  nodes ← count_or (codes "nodes") 16 1 d
-  chains ← count_or (codes "chains") 256 nodes d
-  chunk ← count_or (codes "chunk") 4194304 1048576 d
+  servers ← count_or (codes "servers") SERVERS 1 d
+  nodes ← count_or (codes "nodes") NODES 1 d
+  chains ← count_or (codes "chains") CHAINS nodes d
+  chunk ← count_or (codes "chunk") CHUNK_BYTES 1048576 d
   stripe ← count_or (codes "stripe") chains chains d
   Ok (record { servers = servers; nodes = nodes; chains = chains; chunk = chunk; stripe = stripe })
 
@@ -103,7 +104,7 @@ unfoldable pub plan_of : Data → Result Plan Broken
 plan_of d = do
   keys ← need (has_only top_keys d) not_built
   config ← config_of d
-  attempts ← count_or (codes "attempts") 64 64 d
+  attempts ← count_or (codes "attempts") ATTEMPTS ATTEMPTS d
   scripts ← clients_of config.servers d
   schedule ← schedule_of (length scripts) d
   Ok (record { config = config; attempts = attempts; clients = scripts; schedule = schedule })

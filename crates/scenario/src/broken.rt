@@ -3,6 +3,7 @@ ghost use Rattle.scenario.specs.declared.broken.ScenarioError.TheVariants.{BadSc
 ghost use Rattle.scenario.specs.Broken.{need, not_built, rule};
 
 use fs_base::Memory;
+use fs_base::limits::SCENARIO_BYTES;
 use thiserror::Error;
 
 /// A numbered rule that a scenario breaks, and where.
@@ -39,11 +40,11 @@ impl From<Memory> for ScenarioError {
 
 /// What a scenario of more than 16 MiB breaks.
 pub fn too_long() -> Broken
-    ensures { result ≡ rule 1 16777216 }
+    ensures { result ≡ rule 1 SCENARIO_BYTES }
 {
     Broken {
         rule: 1,
-        place: 16_777_216,
+        place: SCENARIO_BYTES as u64,
     }
 }
 

@@ -6,6 +6,7 @@ ghost use Rattle.scenario.specs.Scenario.{are_distinct, has_id};
 
 use client_core::Script;
 use fs_base::ClientId;
+use fs_base::limits::{CLIENTS, OPERATIONS};
 
 fn has_id(id: ClientId, scripts: &[Script]) -> bool
     ensures { result ≡ has_id id scripts.now }
@@ -33,8 +34,8 @@ pub fn are_distinct(scripts: &[Script]) -> bool
 
 /// How many operations the clients have together.
 pub fn ops_in(scripts: &[Script]) -> usize
-    requires few { length scripts.now ≤ 64 }
-    requires short { All (λ script. length script.ops ≤ 4000) scripts.now }
+    requires few { length scripts.now ≤ CLIENTS }
+    requires short { All (λ script. length script.ops ≤ OPERATIONS) scripts.now }
     ensures { result ≡ ops_in scripts.now }
 {
     let mut count = 0;

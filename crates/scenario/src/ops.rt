@@ -1,6 +1,6 @@
 //! The operations of a client.
 
-ghost use Rattle.std.specs.Prelude.{◌≡◌, ◌≤◌, ◌<◌, ◌^◌, codes, length, map, IfOk, IfSome, ok_or};
+ghost use Rattle.std.specs.Prelude.{◌≡◌, ◌≤◌, ◌<◌, codes, length, map, IfOk, IfSome, ok_or};
 ghost use Rattle.fs_base.specs.Gives.{Gives};
 ghost use Rattle.serde_json.specs.View.{view};
 ghost use Rattle.scenario.specs.Broken.{broken_of, not_built};
@@ -12,6 +12,7 @@ use crate::broken::{Broken, ScenarioError, need, not_built};
 use crate::json::{has_only, text_at};
 use crate::numbers::{number_16_at, number_32_at, number_at, number_or};
 use client_core::Op;
+use fs_base::limits::{INODE_IDS, MODES, TEXT_BYTES, TIMES};
 use fs_base::{Changes, DefaultLayout, InodeId, Place, Text};
 use serde_json::Value;
 use std::alloc::Global;
@@ -48,7 +49,7 @@ pub fn op_of(alloc: Global, value: &Value) -> Result<Op, ScenarioError>
     let name = text_at(value, "op", not_built())?;
     let kind = kind_of(name)?;
     need(has_only(value, keys_of(kind)), not_built())?;
-    let stamp = number_or(value, "time", 1 << 53, 0)?;
+    let stamp = number_or(value, "time", TIMES, 0)?;
     let place = place_at(alloc, value, "dir", "path")?;
     op_with(alloc, kind, stamp, place, value)
 }
@@ -93,10 +94,10 @@ fn keys_of(kind: OpKind) -> &'static [&'static str]
 /// The text at a key that must be there.
 fn short_text(alloc: Global, value: &Value, name: &str) -> Result<Text, ScenarioError>
     ensures gives { Gives broken_of (λ text. text) result (short_text name.now (view value.now)) }
-    ensures short { IfOk result (λ text. length text ≤ 65535) }
+    ensures short { IfOk result (λ text. length text ≤ TEXT_BYTES) }
 {
     let text = text_at(value, name, not_built())?;
-    need(text.len() <= 65_535, not_built())?;
+    need(text.len() <= TEXT_BYTES, not_built())?;
     Ok(Text::from_slice(alloc, text.as_bytes())?)
 }
 
@@ -105,7 +106,7 @@ fn place_at(alloc: Global, value: &Value, dir: &str, path: &str) -> Result<Place
     ensures gives { Gives broken_of (λ place. place) result (place_at dir.now path.now (view value.now)) }
     ensures valid { IfOk result (λ place. IsPlace place) }
 {
-    let base = number_or(value, dir, 1 << 36, 0)?;
+    let base = number_or(value, dir, INODE_IDS, 0)?;
     let text = short_text(alloc, value, path)?;
     Ok(Place {
         base: InodeId::new(base),
@@ -134,18 +135,18 @@ fn layout_of(value: &Value) -> Result<Option<DefaultLayout>, Broken>
 }
 
 fn mode_or(value: &Value, default: u16) -> Result<u16, Broken>
-    requires { default < 4096 }
-    ensures gives { result ≡ number_or (codes "mode") 4096 default (view value.now) }
-    ensures below { IfOk result (λ mode. mode < 4096) }
+    requires { default < MODES }
+    ensures gives { result ≡ number_or (codes "mode") MODES default (view value.now) }
+    ensures below { IfOk result (λ mode. mode < MODES) }
 {
-    let mode = number_or(value, "mode", 4096, u64::from(default))?;
+    let mode = number_or(value, "mode", u64::from(MODES), u64::from(default))?;
     Ok(mode as u16)
 }
 
 fn making_of(value: &Value, default: u16) -> Result<Making, Broken>
-    requires { default < 4096 }
+    requires { default < MODES }
     ensures gives { result ≡ making_of default (view value.now) }
-    ensures mode { IfOk result (λ making. making.mode < 4096) }
+    ensures mode { IfOk result (λ making. making.mode < MODES) }
     ensures layout { IfOk result (λ making. IfSome making.layout IsLayout) }
 {
     let mode = mode_or(value, default)?;
@@ -158,11 +159,11 @@ fn changes_of(value: &Value) -> Result<Changes, Broken>
     ensures gives { result ≡ changes_of (view value.now) }
     ensures valid { IfOk result (λ changes. IsChanges changes) }
 {
-    let mode = number_16_at(value, "mode", 4096)?;
+    let mode = number_16_at(value, "mode", u64::from(MODES))?;
     let owner = number_32_at(value, "uid", 1 << 32)?;
     let group = number_32_at(value, "gid", 1 << 32)?;
-    let atime = number_at(value, "atime", 1 << 53)?;
-    let mtime = number_at(value, "mtime", 1 << 53)?;
+    let atime = number_at(value, "atime", TIMES)?;
+    let mtime = number_at(value, "mtime", TIMES)?;
     Ok(Changes {
         mode,
         owner,
@@ -180,7 +181,7 @@ fn op_with(
     place: Place,
     value: &Value,
 ) -> Result<Op, ScenarioError>
-    requires stamp { stamp < 2 ^ 53 }
+    requires stamp { stamp < TIMES }
     requires place { IsPlace place }
     ensures gives { Gives broken_of (λ op. op) result (op_with kind stamp place (view value.now)) }
     ensures valid { IfOk result (λ op. IsOp op) }
@@ -201,7 +202,7 @@ fn op_with(
 }
 
 fn mkdir_with(stamp: u64, place: Place, value: &Value) -> Result<Op, ScenarioError>
-    requires stamp { stamp < 2 ^ 53 }
+    requires stamp { stamp < TIMES }
     requires place { IsPlace place }
     ensures gives { Gives broken_of (λ op. op) result (op_with OpKind.Mkdir stamp place (view value.now)) }
     ensures valid { IfOk result (λ op. IsOp op) }
@@ -216,7 +217,7 @@ fn mkdir_with(stamp: u64, place: Place, value: &Value) -> Result<Op, ScenarioErr
 }
 
 fn create_with(stamp: u64, place: Place, value: &Value) -> Result<Op, ScenarioError>
-    requires stamp { stamp < 2 ^ 53 }
+    requires stamp { stamp < TIMES }
     requires place { IsPlace place }
     ensures gives { Gives broken_of (λ op. op) result (op_with OpKind.Create stamp place (view value.now)) }
     ensures valid { IfOk result (λ op. IsOp op) }
@@ -231,7 +232,7 @@ fn create_with(stamp: u64, place: Place, value: &Value) -> Result<Op, ScenarioEr
 }
 
 fn symlink_with(alloc: Global, stamp: u64, place: Place, value: &Value) -> Result<Op, ScenarioError>
-    requires stamp { stamp < 2 ^ 53 }
+    requires stamp { stamp < TIMES }
     requires place { IsPlace place }
     ensures gives { Gives broken_of (λ op. op) result (op_with OpKind.Symlink stamp place (view value.now)) }
     ensures valid { IfOk result (λ op. IsOp op) }
@@ -245,7 +246,7 @@ fn symlink_with(alloc: Global, stamp: u64, place: Place, value: &Value) -> Resul
 }
 
 fn setattr_with(stamp: u64, place: Place, value: &Value) -> Result<Op, ScenarioError>
-    requires stamp { stamp < 2 ^ 53 }
+    requires stamp { stamp < TIMES }
     requires place { IsPlace place }
     ensures gives { Gives broken_of (λ op. op) result (op_with OpKind.Setattr stamp place (view value.now)) }
     ensures valid { IfOk result (λ op. IsOp op) }
@@ -259,7 +260,7 @@ fn setattr_with(stamp: u64, place: Place, value: &Value) -> Result<Op, ScenarioE
 }
 
 fn link_with(alloc: Global, stamp: u64, from: Place, value: &Value) -> Result<Op, ScenarioError>
-    requires stamp { stamp < 2 ^ 53 }
+    requires stamp { stamp < TIMES }
     requires place { IsPlace from }
     ensures gives { Gives broken_of (λ op. op) result (op_with OpKind.Link stamp from (view value.now)) }
     ensures valid { IfOk result (λ op. IsOp op) }

@@ -16,6 +16,9 @@ use crate::numbers::{count_or, number_or};
 use crate::ops::op_of;
 use crate::schedule::schedule_of;
 use client_core::{Op, Plan, Script};
+use fs_base::limits::{
+    ATTEMPTS, CHAINS, CHUNK_BYTES, CLIENTS, NODES, OPERATIONS, SCENARIO_BYTES, SERVERS,
+};
 use fs_base::{ClientId, Config, Items};
 use serde_json::Value;
 use std::alloc::Global;
@@ -26,7 +29,7 @@ use uuid::Uuid;
 pub fn read_scenario(alloc: Global, bytes: &[u8]) -> Result<Plan, ScenarioError>
     ensures gives { Gives broken_of (λ plan. plan) result (scenario_of bytes.now) }
     ensures valid { IfOk result (λ plan. IsPlan plan) }
-    ensures long { 16777216 < length bytes.now → result ≡ Err (BadScenario (rule 1 16777216)) }
+    ensures long { SCENARIO_BYTES < length bytes.now → result ≡ Err (BadScenario (rule 1 SCENARIO_BYTES)) }
 {
     let text = short_enough(bytes)?;
     let value = json_of(alloc, text)?;
@@ -35,9 +38,9 @@ pub fn read_scenario(alloc: Global, bytes: &[u8]) -> Result<Plan, ScenarioError>
 
 fn short_enough(bytes: &[u8]) -> Result<&[u8], Broken>
     ensures gives { Gives Some (λ s. s.now) result (short_enough bytes.now) }
-    ensures short { OnOk result (length bytes.now ≤ 16777216) }
+    ensures short { OnOk result (length bytes.now ≤ SCENARIO_BYTES) }
 {
-    if bytes.len() > 16_777_216 {
+    if bytes.len() > SCENARIO_BYTES {
         return Err(too_long());
     }
     Ok(bytes)
@@ -72,7 +75,7 @@ fn plan_of(alloc: Global, value: &Value) -> Result<Plan, ScenarioError>
         not_built(),
     )?;
     let config = config_of(value)?;
-    let attempts = count_or(value, "attempts", 64, 64)?;
+    let attempts = count_or(value, "attempts", u64::from(ATTEMPTS), u64::from(ATTEMPTS))?;
     let clients = clients_of(alloc, config.servers(), value)?;
     let schedule = schedule_of(alloc, clients.len(), value)?;
     Ok(Plan {
@@ -88,10 +91,10 @@ fn plan_of(alloc: Global, value: &Value) -> Result<Plan, ScenarioError>
 fn config_of(value: &Value) -> Result<Config, Broken>
     ensures { Gives Some (λ config. config) result (config_of (view value.now)) }
 {
-    let servers = count_or(value, "servers", 16, 1)?;
-    let nodes = count_or(value, "nodes", 16, 1)?;
-    let chains = count_or(value, "chains", 256, nodes)?;
-    let chunk = count_or(value, "chunk", 4_194_304, 1_048_576)?;
+    let servers = count_or(value, "servers", u64::from(SERVERS), 1)?;
+    let nodes = count_or(value, "nodes", u64::from(NODES), 1)?;
+    let chains = count_or(value, "chains", u64::from(CHAINS), nodes)?;
+    let chunk = count_or(value, "chunk", u64::from(CHUNK_BYTES), 1_048_576)?;
     let stripe = count_or(value, "stripe", chains, chains)?;
     Ok(config_with(servers, nodes, chains, chunk, stripe))
 }
@@ -125,17 +128,17 @@ fn clients_of(alloc: Global, servers: u8, value: &Value) -> Result<Items<Script>
     requires { 1 ≤ servers }
     ensures gives { Gives broken_of (λ clients. clients) result (clients_of servers (view value.now)) }
     ensures some { IfOk result (λ clients. 1 ≤ length clients) }
-    ensures few { IfOk result (λ clients. length clients ≤ 64) }
+    ensures few { IfOk result (λ clients. length clients ≤ CLIENTS) }
     ensures scripts { IfOk result (λ clients. All (IsScript servers) clients) }
     ensures ids { IfOk result (λ clients. All HasId clients) }
     ensures distinct { IfOk result (λ clients. AreDistinct clients) }
-    ensures short { IfOk result (λ clients. ops_in clients ≤ 4000) }
+    ensures short { IfOk result (λ clients. ops_in clients ≤ OPERATIONS) }
 {
     let list = array_at(value, "clients", not_built())?;
-    need(1 <= list.len() && list.len() <= 64, not_built())?;
+    need(1 <= list.len() && list.len() <= CLIENTS, not_built())?;
     let clients = scripts_of(alloc, servers, list)?;
     need(are_distinct(clients.as_slice()), not_built())?;
-    need(ops_in(clients.as_slice()) <= 4000, not_built())?;
+    need(ops_in(clients.as_slice()) <= OPERATIONS, not_built())?;
     Ok(clients)
 }
 
@@ -210,11 +213,11 @@ fn id_in(text: &str) -> Result<ClientId, Broken>
 
 fn ops_at(alloc: Global, value: &Value) -> Result<Items<Op>, ScenarioError>
     ensures gives { Gives broken_of (λ ops. ops) result (ops_at (view value.now)) }
-    ensures few { IfOk result (λ ops. length ops ≤ 4000) }
+    ensures few { IfOk result (λ ops. length ops ≤ OPERATIONS) }
     ensures valid { IfOk result (λ ops. All IsOp ops) }
 {
     let list = array_at(value, "ops", not_built())?;
-    need(list.len() <= 4000, not_built())?;
+    need(list.len() <= OPERATIONS, not_built())?;
     ops_of(alloc, list)
 }
 

@@ -12,12 +12,13 @@ use crate::json::array_in;
 use crate::numbers::whole_number;
 use client_core::Schedule;
 use fs_base::Items;
+use fs_base::limits::CLIENTS;
 use serde_json::Value;
 use std::alloc::Global;
 
 /// The order of turns of so many clients; none where the key is missing.
 pub fn schedule_of(alloc: Global, count: usize, value: &Value) -> Result<Schedule, ScenarioError>
-    requires { count ≤ 64 }
+    requires { count ≤ CLIENTS }
     ensures gives { Gives broken_of (λ schedule. schedule) result (schedule_of count (view value.now)) }
     ensures valid { IfOk result (λ schedule. IsSchedule count schedule) }
 {
@@ -30,7 +31,7 @@ pub fn schedule_of(alloc: Global, count: usize, value: &Value) -> Result<Schedul
 }
 
 fn items_of(alloc: Global, count: usize, values: &[Value]) -> Result<Items<u16>, ScenarioError>
-    requires { count ≤ 64 }
+    requires { count ≤ CLIENTS }
     ensures gives { Gives broken_of (λ items. items) result (items_of count (map view values.now)) }
     ensures valid { IfOk result (λ items. All (NamesClient count) items) }
 {
@@ -43,7 +44,7 @@ fn items_of(alloc: Global, count: usize, values: &[Value]) -> Result<Items<u16>,
 }
 
 fn item_of(count: usize, value: &Value) -> Result<u16, ScenarioError>
-    requires { count ≤ 64 }
+    requires { count ≤ CLIENTS }
     ensures gives { Gives broken_of (λ item. item) result (item_of count (view value.now)) }
     ensures valid { IfOk result (λ item. NamesClient count item) }
 {
