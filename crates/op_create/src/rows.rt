@@ -121,7 +121,7 @@ impl CreateTask {
         requires may { MayMake self.now txn.old.reads dir name.now default number }
         ensures { IfOk result (IsEndStep self.now (AtParent dir name.now) txn.old txn.new) }
     {
-        if number >= u64::from(LAST_NUMBER) {
+        if number >= LAST_NUMBER as u64 {
             return Ok(OpStep::Reply(Reply::Refused(Code::AtLimit(Limit::Inodes))));
         }
         in_range(&self.config, dir, name);

@@ -139,7 +139,7 @@ fn mode_or(value: &Value, default: u16) -> Result<u16, Broken>
     ensures gives { result ≡ number_or (codes "mode") MODES default (view value.now) }
     ensures below { IfOk result (λ mode. mode < MODES) }
 {
-    let mode = number_or(value, "mode", u64::from(MODES), u64::from(default))?;
+    let mode = number_or(value, "mode", MODES as u64, u64::from(default))?;
     Ok(mode as u16)
 }
 
@@ -159,7 +159,7 @@ fn changes_of(value: &Value) -> Result<Changes, Broken>
     ensures gives { result ≡ changes_of (view value.now) }
     ensures valid { IfOk result (λ changes. IsChanges changes) }
 {
-    let mode = number_16_at(value, "mode", u64::from(MODES))?;
+    let mode = number_16_at(value, "mode", MODES as u64)?;
     let owner = number_32_at(value, "uid", 1 << 32)?;
     let group = number_32_at(value, "gid", 1 << 32)?;
     let atime = number_at(value, "atime", TIMES)?;

@@ -75,7 +75,7 @@ fn plan_of(alloc: Global, value: &Value) -> Result<Plan, ScenarioError>
         not_built(),
     )?;
     let config = config_of(value)?;
-    let attempts = count_or(value, "attempts", u64::from(ATTEMPTS), u64::from(ATTEMPTS))?;
+    let attempts = count_or(value, "attempts", ATTEMPTS as u64, ATTEMPTS as u64)?;
     let clients = clients_of(alloc, config.servers(), value)?;
     let schedule = schedule_of(alloc, clients.len(), value)?;
     Ok(Plan {
@@ -91,10 +91,10 @@ fn plan_of(alloc: Global, value: &Value) -> Result<Plan, ScenarioError>
 fn config_of(value: &Value) -> Result<Config, Broken>
     ensures { Gives Some (λ config. config) result (config_of (view value.now)) }
 {
-    let servers = count_or(value, "servers", u64::from(SERVERS), 1)?;
-    let nodes = count_or(value, "nodes", u64::from(NODES), 1)?;
-    let chains = count_or(value, "chains", u64::from(CHAINS), nodes)?;
-    let chunk = count_or(value, "chunk", u64::from(CHUNK_BYTES), 1_048_576)?;
+    let servers = count_or(value, "servers", SERVERS as u64, 1)?;
+    let nodes = count_or(value, "nodes", NODES as u64, 1)?;
+    let chains = count_or(value, "chains", CHAINS as u64, nodes)?;
+    let chunk = count_or(value, "chunk", CHUNK_BYTES as u64, 1_048_576)?;
     let stripe = count_or(value, "stripe", chains, chains)?;
     Ok(config_with(servers, nodes, chains, chunk, stripe))
 }
