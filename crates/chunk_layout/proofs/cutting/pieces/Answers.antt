@@ -5,13 +5,13 @@ use Rattle.chunk_layout.specs.declared.cutting.Piece.{Piece}
 use Rattle.chunk_layout.proofs.PieceLaws.{pieces_push, fewer}
 use Rattle.chunk_layout.proofs.cutting.pieces.Goals as goal
 
-pub returns-then-len-eq65536-clause-long : goal.returns-then-len-eq65536-clause-long
-returns-then-len-eq65536-clause-long c =
+pub returns-then-len-eq-PIECES-clause-long : goal.returns-then-len-eq-PIECES-clause-long
+returns-then-len-eq-PIECES-clause-long c =
     let end : ℕ = c.args.offset + c.args.len in
     λ _. inr (λ all cover.
     let less : length c.loop-at.pieces < length all
     = fewer c.args.layout.now.chunk end c.args.offset c.loop-at.at c.loop-at.pieces all c.loop-at-test.true c.loop-at.invariant.front cover in
-    omega (arith, less, c.len.ensures, c.if-len-eq65536.true))
+    omega (arith, less, c.len.ensures, c.if-len-eq-PIECES.true))
 
 pub loop-at-preserved : goal.loop-at-preserved
 loop-at-preserved c =
@@ -24,7 +24,7 @@ loop-at-preserved c =
       end = refl;
       short = c.loop-at.invariant.short;
       before = omega (arith, c.piece_at-piece.ensures.within, c.from-at.ensures);
-      few = omega (arith, longer, c.loop-at.invariant.few, c.len.ensures, c.if-len-eq65536.false);
+      few = omega (arith, longer, c.loop-at.invariant.few, c.len.ensures, c.if-len-eq-PIECES.false);
       front = subst (λ n. ArePieces chunk end c.args.offset (c.loop-at.at + n) c.push.new.self) (sym c.from-at.ensures)
           (subst (λ (pieces : List Piece). ArePieces chunk end c.args.offset (c.loop-at.at + piece.len) pieces) (sym grown)
           (pieces_push chunk end c.args.offset c.loop-at.at c.loop-at.pieces piece c.loop-at.invariant.front c.piece_at-piece.ensures.piece));
