@@ -1,4 +1,5 @@
 pub mod Areas
+pub mod Climbing
 pub mod Directories
 pub mod Faults
 pub mod Footprint
