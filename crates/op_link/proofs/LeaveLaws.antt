@@ -45,7 +45,8 @@ use Rattle.path_walk.specs.Puts.{ArePuts, MakesPuts, put_writes}
 use Rattle.path_walk.proofs.NameLaws as names
 use Rattle.path_walk.proofs.PutLaws.{puts_done}
 use Rattle.path_walk.proofs.StepLaws.{areas_on, asks_key, read_behind, tells}
-use Rattle.op_link.specs.Ending.{IsEndStep, IsEntryRead, IsRowRead}
+use Rattle.path_walk.specs.Directories.{IsEntryRead, IsRowRead}
+use Rattle.op_link.specs.Ending.{IsEndStep}
 use Rattle.op_link.specs.Puts.{gone_puts, left_puts, waiting_puts}
 use Rattle.op_link.specs.declared.task.LinkCall.TheVariants as link
 use Rattle.op_link.proofs.PutLaws.{entry_taken, links_within, node_taken, row_fits, row_put, waiting_put}

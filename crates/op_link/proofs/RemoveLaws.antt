@@ -43,7 +43,8 @@ use Rattle.path_walk.proofs.NameLaws as names
 use Rattle.path_walk.proofs.NameLaws.{in_directory}
 use Rattle.path_walk.proofs.PutLaws.{puts_done}
 use Rattle.path_walk.proofs.StepLaws.{areas_on, asks_for, may_behind, read_behind, tells}
-use Rattle.op_link.specs.Ending.{IsEndStep, IsEntryRead}
+use Rattle.path_walk.specs.Directories.{IsEntryRead}
+use Rattle.op_link.specs.Ending.{IsEndStep}
 use Rattle.op_link.specs.Puts.{gone_puts}
 use Rattle.op_link.specs.declared.task.LinkCall.TheVariants as link
 use Rattle.op_link.proofs.PutLaws.{entry_taken, node_taken}

@@ -1,7 +1,8 @@
 ghost use Rattle.std.specs.Prelude.{◌≡◌, ℕ, [], IfOk};
 ghost use Rattle.fs_base.specs.declared.kind.Kind.TheVariants as kinds;
 ghost use Rattle.tree_model.specs.declared.walk.Walked.TheVariants.{AtParent};
-ghost use Rattle.op_link.specs.Ending.{IsEndStep, IsEntryRead};
+ghost use Rattle.path_walk.specs.Directories.{IsEntryRead};
+ghost use Rattle.op_link.specs.Ending.{IsEndStep};
 ghost use Rattle.op_link.specs.declared.task.LinkCall.TheVariants as link;
 
 use crate::rows::{in_range, put_gone};

@@ -2,7 +2,8 @@ ghost use Rattle.std.specs.Prelude.{◌≡◌, ◌≢◌, ◌<◌, ◌≤◌, []
 ghost use Rattle.byte_fields.specs.Fields.{time};
 ghost use Rattle.fs_base.specs.declared.kind.Kind.TheVariants as kinds;
 ghost use Rattle.tree_model.specs.declared.walk.Walked.TheVariants.{AtParent};
-ghost use Rattle.op_link.specs.Ending.{IsEndStep, IsEntryRead, IsRowRead};
+ghost use Rattle.path_walk.specs.Directories.{IsEntryRead, IsRowRead};
+ghost use Rattle.op_link.specs.Ending.{IsEndStep};
 ghost use Rattle.op_link.specs.declared.task.LinkCall.TheVariants as link;
 
 use crate::rows::{in_range, put_gone, put_left, put_waiting, recounted};

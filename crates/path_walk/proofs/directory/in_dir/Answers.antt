@@ -2,7 +2,7 @@ use Rattle.std.proofs.Common.{ap}
 use Rattle.row_tree.specs.TypedRows.{kind_of}
 use Rattle.tree_model.proofs.MapLaws.{not_some}
 use Rattle.row_tree.proofs.Making.{no_directory}
-use Rattle.op_link.proofs.join.in_dir.Goals as goal
+use Rattle.path_walk.proofs.directory.in_dir.Goals as goal
 
 pub returns-in-Ask : goal.returns-in-Ask
 returns-in-Ask c = rw c.in-Ask.is at c.in_ok-key.ensures
