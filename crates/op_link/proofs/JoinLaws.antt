@@ -43,10 +43,10 @@ use Rattle.path_walk.proofs.PutLaws.{puts_done}
 use Rattle.path_walk.proofs.StepLaws.{tells}
 use Rattle.op_link.specs.Ending.{IsEndStep, IsJoinStep, IsSource, MayJoin}
 use Rattle.op_link.specs.Link.{does_at, reads_at}
-use Rattle.op_link.specs.Puts.{join_puts}
+use Rattle.path_walk.specs.RowPuts.{join_puts}
 use Rattle.op_link.specs.declared.task.LinkCall.{LinkCall}
 use Rattle.op_link.specs.declared.task.LinkCall.TheVariants as link
-use Rattle.op_link.proofs.PutLaws.{entry_put, links_within, row_fits, row_put}
+use Rattle.path_walk.proofs.RowPutLaws.{entry_put, links_within, row_fits, row_put}
 use Rattle.op_link.proofs.SourceLaws.{source_kind, source_links, source_there}
 
 -- ---- where the first way ends

@@ -45,9 +45,9 @@ use Rattle.path_walk.proofs.PutLaws.{puts_done}
 use Rattle.path_walk.proofs.StepLaws.{areas_on, asks_for, may_behind, read_behind, tells}
 use Rattle.path_walk.specs.Directories.{IsEntryRead}
 use Rattle.op_link.specs.Ending.{IsEndStep}
-use Rattle.op_link.specs.Puts.{gone_puts}
+use Rattle.path_walk.specs.RowPuts.{gone_puts}
 use Rattle.op_link.specs.declared.task.LinkCall.TheVariants as link
-use Rattle.op_link.proofs.PutLaws.{entry_taken, node_taken}
+use Rattle.path_walk.proofs.RowPutLaws.{entry_taken, node_taken}
 
 -- ---- where the way comes to no name
 

@@ -3,10 +3,9 @@ ghost use Rattle.byte_fields.specs.Fields.{time};
 ghost use Rattle.tree_model.specs.declared.walk.Walked.TheVariants.{AtParent};
 ghost use Rattle.op_link.specs.Ending.{IsJoinStep, IsSource, MayJoin};
 
-use crate::rows::{in_range, put_joined, recounted};
 use fs_base::{Code, InodeId, Items, Limit, Memory, Name, Reply};
 use inode_record::InodeRow;
-use path_walk::{InDir, in_dir};
+use path_walk::{InDir, in_dir, in_range, put_joined, recounted};
 use std::alloc::Global;
 use tree_model::Walked;
 use txn_task::{Ask, OpStep, Txn, Want, want_dent, want_inode};

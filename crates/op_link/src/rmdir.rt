@@ -5,8 +5,8 @@ ghost use Rattle.path_walk.specs.Directories.{IsEntryRead};
 ghost use Rattle.op_link.specs.Ending.{IsEndStep};
 ghost use Rattle.op_link.specs.declared.task.LinkCall.TheVariants as link;
 
-use crate::rows::{in_range, put_gone};
 use fs_base::{Code, InodeId, Items, Kind, Memory, Name, Reply};
+use path_walk::{in_range, put_gone};
 use row_records::DentRow;
 use std::alloc::Global;
 use tree_model::Walked;

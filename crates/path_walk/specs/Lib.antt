@@ -6,6 +6,7 @@ pub mod Footprint
 pub mod Owed
 pub mod Puts
 pub mod Requests
+pub mod RowPuts
 pub mod Sound
 pub mod Stages
 pub mod Walks

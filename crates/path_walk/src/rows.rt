@@ -2,16 +2,16 @@ ghost use Rattle.std.specs.Prelude.{◌≡◌, ◌^◌, ◌<◌, [], IsTrue, OnO
 ghost use Rattle.fs_base.specs.Names.{is_name};
 ghost use Rattle.path_walk.specs.Puts.{put_writes};
 ghost use Rattle.row_tree.specs.Steps as rows;
-ghost use Rattle.op_link.specs.Puts.{gone_puts, join_puts, left_puts, waiting_puts};
+ghost use Rattle.path_walk.specs.RowPuts.{gone_puts, join_puts, left_puts, unlinked_puts, waiting_puts};
 
-use fs_base::{InodeId, Memory, Name};
+use fs_base::{InodeId, Kind, Memory, Name};
 use inode_record::InodeRow;
 use row_records::{DentRow, GcRow};
 use std::alloc::Global;
 use txn_task::{Txn, kind_of, put_doomed, put_entry, put_inode, remove_entry, remove_inode};
 
 /// An inode's number is below 2^36, and a name one of those that may be.
-pub(crate) fn in_range(dir: InodeId, name: &Name, id: InodeId)
+pub fn in_range(dir: InodeId, name: &Name, id: InodeId)
     ensures dir { dir < 2 ^ 36 }
     ensures name { IsTrue (is_name name.now) }
     ensures id { id < 2 ^ 36 }
@@ -22,7 +22,7 @@ pub(crate) fn in_range(dir: InodeId, name: &Name, id: InodeId)
 }
 
 /// The row with another count of entries, and the stamp as its change time.
-pub(crate) fn recounted(row: InodeRow, links: u32, stamp: u64) -> InodeRow
+pub fn recounted(row: InodeRow, links: u32, stamp: u64) -> InodeRow
     ensures { result ≡ rows.recounted stamp links row }
 {
     InodeRow {
@@ -38,7 +38,7 @@ pub(crate) fn recounted(row: InodeRow, links: u32, stamp: u64) -> InodeRow
 }
 
 /// Puts a further entry of a node, and its row.
-pub(crate) fn put_joined(
+pub fn put_joined(
     alloc: Global,
     txn: &mut Txn,
     dir: InodeId,
@@ -56,7 +56,7 @@ pub(crate) fn put_joined(
 }
 
 /// Takes an entry away, and puts the row of the node that it led to.
-pub(crate) fn put_left(
+pub fn put_left(
     alloc: Global,
     txn: &mut Txn,
     dir: InodeId,
@@ -73,7 +73,7 @@ pub(crate) fn put_left(
 }
 
 /// The same, and the file waits to be deleted.
-pub(crate) fn put_waiting(
+pub fn put_waiting(
     alloc: Global,
     txn: &mut Txn,
     dir: InodeId,
@@ -90,7 +90,7 @@ pub(crate) fn put_waiting(
 }
 
 /// Takes a node away with its entry.
-pub(crate) fn put_gone(
+pub fn put_gone(
     alloc: Global,
     txn: &mut Txn,
     dir: InodeId,
@@ -103,4 +103,32 @@ pub(crate) fn put_gone(
     remove_entry(alloc, txn, dir, name)?;
     remove_inode(alloc, txn, id)?;
     Ok(())
+}
+
+/// Takes an entry away of a node that is no directory, and puts what becomes of the node.
+pub fn put_unlinked(
+    alloc: Global,
+    txn: &mut Txn,
+    stamp: u64,
+    dir: InodeId,
+    name: &Name,
+    entry: DentRow,
+    row: InodeRow,
+) -> Result<(), Memory>
+    requires writes { txn.old.writes ≡ [] }
+    ensures { OnOk result (txn.new ≡ record txn.old { writes = put_writes (unlinked_puts stamp dir name.now entry row) }) }
+{
+    if row.links >= 2 {
+        let links = row.links - 1;
+        let new = recounted(row, links, stamp);
+        return put_left(alloc, txn, dir, name, entry.inode, &new);
+    }
+    match entry.kind {
+        Kind::File => {
+            let new = recounted(row, 0, stamp);
+            put_waiting(alloc, txn, dir, name, entry.inode, &new)
+        }
+        Kind::Dir => put_gone(alloc, txn, dir, name, entry.inode),
+        Kind::Link => put_gone(alloc, txn, dir, name, entry.inode),
+    }
 }

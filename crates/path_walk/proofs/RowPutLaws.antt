@@ -30,7 +30,7 @@ use Rattle.txn_task.specs.Transactions.{Transaction}
 use Rattle.txn_task.specs.Writes.{set_write}
 use Rattle.path_walk.specs.Puts.{ArePuts, IsPut, put_writes}
 use Rattle.path_walk.proofs.PutLaws.{absent_changes}
-use Rattle.op_link.specs.Puts.{gone_puts, join_puts, left_puts, waiting_puts}
+use Rattle.path_walk.specs.RowPuts.{gone_puts, join_puts, left_puts, waiting_puts}
 
 -- ---- one after another
 
