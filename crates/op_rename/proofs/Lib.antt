@@ -1,0 +1,3 @@
+pub mod ClimbSteps
+pub mod MoveLaws
+pub mod MovePuts
