@@ -44,6 +44,6 @@ abbrev pub IsMoveStep : Spots → ℕ → DentRow → Option DentRow → Transac
 IsMoveStep spots stamp entry taken before after s =
     (C : Settings)
     → HasDone C
-        (λ T. moved_at T entry.kind entry.inode spots.to.dir (option_map (λ (e : DentRow). e.inode) taken))
-        (λ T. moves_from spots.from stamp T (AtParent spots.to.dir spots.to.name))
-        before after s
+    (λ T. moved_at T entry.kind entry.inode spots.to.dir (option_map (λ (e : DentRow). e.inode) taken))
+    (λ T. moves_from spots.from stamp T (AtParent spots.to.dir spots.to.name))
+    before after s

@@ -88,7 +88,13 @@ fn place_in(
 {
     match want_dent(alloc, txn, spots.to.dir, &spots.to.name)? {
         Want::Ask(key) => Ok(OpStep::Ask(Ask::Get(key))),
-        Want::Absent => move_entry(alloc, txn, stamp, spots, entry, None),
-        Want::There(taken) => move_entry(alloc, txn, stamp, spots, entry, Some(taken)),
+        Want::Absent => {
+            let step = move_entry(alloc, txn, stamp, spots, entry, None)?;
+            Ok(step)
+        }
+        Want::There(taken) => {
+            let step = move_entry(alloc, txn, stamp, spots, entry, Some(taken))?;
+            Ok(step)
+        }
     }
 }

@@ -50,7 +50,10 @@ fn rename_from(
     match want_dent(alloc, txn, from.dir, &from.name)? {
         Want::Ask(key) => Ok(OpStep::Ask(Ask::Get(key))),
         Want::Absent => Ok(OpStep::Reply(Reply::Refused(Code::NotFound))),
-        Want::There(entry) => walk_to(alloc, txn, stamp, to, from, entry),
+        Want::There(entry) => {
+            let step = walk_to(alloc, txn, stamp, to, from, entry)?;
+            Ok(step)
+        }
     }
 }
 

@@ -87,9 +87,14 @@ abbrev pub if_free : Option ℕ → List Area → List Area
 if_free None areas = areas
 if_free (Some id) areas = []
 
--- the directory, the name in it, and one key more where no entry stands
+-- the directory, the name in it, and more by what stands there
+abbrev pub in_named : Tree → ℕ → List ℕ → (Option ℕ → List Area) → List Area
+in_named T dir name more =
+    OneKey (keys.Inode dir) ∷ in_dir (get T.nodes dir) (OneKey (keys.Dent dir name) ∷ more (get T.entries (dir, name)))
+
+-- one key more where no entry stands
 abbrev pub name_at : Key → Tree → Walked → List Area
-name_at last T (AtParent dir name) = OneKey (keys.Inode dir) ∷ in_dir (get T.nodes dir) (OneKey (keys.Dent dir name) ∷ if_free (get T.entries (dir, name)) (OneKey last ∷ []))
+name_at last T (AtParent dir name) = in_named T dir name (λ taken. if_free taken (OneKey last ∷ []))
 name_at last T _ = []
 
 -- that of the server's next number
@@ -161,9 +166,7 @@ moved_at T kind id dir taken = unless_same id taken (kind_moved T kind id dir ta
 
 -- where the second walk ends: the directory, and the entry there
 abbrev pub placed_at : Tree → Kind → ℕ → Walked → List Area
-placed_at T kind id (AtParent dir name) =
-    OneKey (keys.Inode dir)
-    ∷ in_dir (get T.nodes dir) (OneKey (keys.Dent dir name) ∷ moved_at T kind id dir (get T.entries (dir, name)))
+placed_at T kind id (AtParent dir name) = in_named T dir name (moved_at T kind id dir)
 placed_at T kind id _ = []
 
 -- the second walk is that of an entry's node
