@@ -1,6 +1,6 @@
 -- What link owes where its ways end, by what is known of the rows.
-use Rattle.std.proofs.Common.{◌≡◌, ◌≢◌, ℕ, ◌+◌, ◌<◌, ◌≤◌, ◌^◌, List, [], ◌∷◌, refl, sym, ap, subst, ◌∙◌, arith}
-use Rattle.std.specs.Prelude.{IsTrue, Option, Some, None}
+use Rattle.std.proofs.Common.{◌≡◌, ◌≢◌, ℕ, ◌+◌, ◌<◌, ◌≤◌, ◌^◌, List, [], refl, ap, arith}
+use Rattle.std.specs.Prelude.{IsTrue, Some, None}
 use Rattle.std.specs.FinMap.{get}
 use Rattle.byte_fields.specs.Fields.{time}
 use Rattle.conflict_sets.specs.declared.sets.ReadSet.{ReadSet}
@@ -43,10 +43,10 @@ use Rattle.path_walk.proofs.PutLaws.{puts_done}
 use Rattle.path_walk.proofs.StepLaws.{tells}
 use Rattle.op_link.specs.Ending.{IsEndStep, IsJoinStep, IsSource, MayJoin}
 use Rattle.op_link.specs.Link.{does_at, reads_at}
-use Rattle.op_link.specs.Puts.{join_puts}
+use Rattle.path_walk.specs.RowPuts.{join_puts}
 use Rattle.op_link.specs.declared.task.LinkCall.{LinkCall}
 use Rattle.op_link.specs.declared.task.LinkCall.TheVariants as link
-use Rattle.op_link.proofs.PutLaws.{entry_put, links_within, row_fits, row_put}
+use Rattle.path_walk.proofs.RowPutLaws.{entry_put, links_within, row_fits, row_put}
 use Rattle.op_link.proofs.SourceLaws.{source_kind, source_links, source_there}
 
 -- ---- where the first way ends

@@ -1,5 +1,5 @@
 -- What unlink owes where its way ends, by what is known of the rows.
-use Rattle.std.proofs.Common.{◌≡◌, ◌≢◌, ℕ, ◌-◌, ◌<◌, ◌≤◌, ◌^◌, List, [], ◌∷◌, refl, sym, ap, subst, ◌∙◌, arith}
+use Rattle.std.proofs.Common.{◌≡◌, ◌≢◌, ℕ, ◌<◌, ◌^◌, List, [], ◌∷◌, refl, sym, ap, subst, ◌∙◌}
 use Rattle.std.specs.Prelude.{IsTrue, Option, Some, None}
 use Rattle.std.specs.FinMap.{get}
 use Rattle.byte_fields.specs.Fields.{time}
@@ -18,20 +18,17 @@ use Rattle.key_schema.specs.declared.key.Key.{Key}
 use Rattle.key_schema.specs.declared.key.Key.TheVariants as keys
 use Rattle.row_records.proofs.InRange.{done_fits}
 use Rattle.row_records.specs.declared.rows.DentRow.{DentRow}
-use Rattle.row_records.specs.declared.rows.GcRow.TheVariants.{Waiting}
-use Rattle.row_tree.specs.Steps.{recounted}
 use Rattle.row_tree.specs.TreeOf.{tree_of, node_part}
 use Rattle.row_tree.specs.TypedRows.{TypedRows, kind_of}
-use Rattle.row_tree.specs.Values.{Value}
 use Rattle.row_tree.specs.WellFormed.{IsWellFormed}
-use Rattle.row_tree.proofs.Detaching.{unlink_absent, unlink_dir, unlink_goes, unlink_stays, unlink_waits}
+use Rattle.row_tree.proofs.Detaching.{unlink_absent, unlink_dir}
 use Rattle.row_tree.proofs.Telling.{node_is}
 use Rattle.tree_model.specs.declared.node.Node.{Node}
 use Rattle.tree_model.specs.declared.walk.Walked.TheVariants.{At, AtParent, NoName, Stopped}
 use Rattle.tree_model.specs.Effects.{Effect, at_length}
 use Rattle.tree_model.specs.Linking.{unlink_at}
 use Rattle.tree_model.specs.Tree.{Tree}
-use Rattle.tree_model.proofs.MapLaws.{not_some, same_some}
+use Rattle.tree_model.proofs.MapLaws.{not_some}
 use Rattle.txn_task.specs.Agreeing.{Agrees}
 use Rattle.txn_task.specs.Transactions.{Transaction}
 use Rattle.txn_task.specs.Wanted.{IsKeyRead, IsUnread}
@@ -41,15 +38,15 @@ use Rattle.txn_task.specs.declared.messages.OpStep.TheVariants as steps
 use Rattle.path_walk.specs.Areas.{Area, OneKey, AreRead}
 use Rattle.path_walk.specs.Footprint.{beside_part, unless_dir, unlinked_at}
 use Rattle.path_walk.specs.Owed.{HasRead, KeepsAreas}
-use Rattle.path_walk.specs.Puts.{ArePuts, MakesPuts, put_writes}
+use Rattle.path_walk.specs.Puts.{put_writes}
 use Rattle.path_walk.proofs.NameLaws as names
 use Rattle.path_walk.proofs.PutLaws.{puts_done}
 use Rattle.path_walk.proofs.StepLaws.{areas_on, asks_key, read_behind, tells}
-use Rattle.op_link.specs.Ending.{IsEndStep, IsEntryRead, IsRowRead}
-use Rattle.op_link.specs.Puts.{gone_puts, left_puts, waiting_puts}
+use Rattle.path_walk.specs.Directories.{IsEntryRead, IsRowRead}
+use Rattle.op_link.specs.Ending.{IsEndStep}
+use Rattle.path_walk.specs.RowPuts.{unlinked_puts}
 use Rattle.op_link.specs.declared.task.LinkCall.TheVariants as link
-use Rattle.op_link.proofs.PutLaws.{entry_taken, links_within, node_taken, row_fits, row_put, waiting_put}
-use Rattle.op_link.proofs.SourceLaws.{entry_links}
+use Rattle.path_walk.proofs.UnlinkLaws.{unlinked_are, unlinked_made}
 
 -- ---- where the way comes to no name
 
@@ -131,64 +128,12 @@ module _ (stamp dir : ℕ) (name : List ℕ) where
 
   -- ---- all was read
 
-  module _ (t : Transaction) (none : t.writes ≡ []) (e : DentRow) (entry : IsEntryRead t.reads dir name e) (other : e.kind ≢ kinds.Dir) (row : InodeRow) (is : IsRowRead t.reads e.inode row) (small : e.inode < 2 ^ 36) (low : dir < 2 ^ 36) (named : IsTrue (is_name name))
-      (u : Transaction) (asked : List Asked) (empty : asked ≡ []) where
-    commits : (puts : List (Key × Option Value)) → ((C : Settings) → ArePuts C t.reads puts) → u ≡ record t { writes = put_writes puts } → ((C : Settings) → MakesPuts C outcome t.reads puts Done)
+  module _ (t : Transaction) (none : t.writes ≡ []) (e : DentRow) (entry : IsEntryRead t.reads dir name e) (other : e.kind ≢ kinds.Dir) (row : InodeRow) (is : IsRowRead t.reads e.inode row) (small : e.inode < 2 ^ 36) (low : dir < 2 ^ 36) (named : IsTrue (is_name name)) where
+    pub left_done : IsTrue (time.fits stamp) → (u : Transaction) (asked : List Asked) → asked ≡ [] → u ≡ record t { writes = put_writes (unlinked_puts stamp dir name e row) }
         → IsEndStep link.Unlink stamp (AtParent dir name) t u (steps.Commit Done asked)
-    commits puts are after makes C = puts_done C areas outcome t u Done asked puts (all_read C t.reads e entry other is.seen) (are C) after done_fits empty (makes C)
-
-    pub fewer_done : IsTrue (time.fits stamp) → 2 ≤ row.links → u ≡ record t { writes = put_writes (left_puts dir name e.inode (recounted stamp (row.links - 1) row)) }
-        → IsEndStep link.Unlink stamp (AtParent dir name) t u (steps.Commit Done asked)
-    fewer_done time_ok more after = commits (left_puts dir name e.inode (recounted stamp (row.links - 1) row)) are after makes
-      where
-        are : (C : Settings) → ArePuts C t.reads (left_puts dir name e.inode (recounted stamp (row.links - 1) row))
-        are C = (
-          row_put C t.reads e.inode small row is.there stamp (row.links - 1) time_ok
-              (λ S good agrees. let most = links_within row (row_fits t.reads e.inode row is.there S agrees) in (omega arith, (λ q. omega arith))),
-          (entry_taken C t.reads dir name low named e entry.there, tt),
-        )
-
-        makes : (C : Settings) → MakesPuts C outcome t.reads (left_puts dir name e.inode (recounted stamp (row.links - 1) row)) Done
-        makes C S good agrees =
-            let one = unlink_stays C S good stamp dir name e (entry.there S agrees) row (is.there S agrees) other more in
-            (one.0, ap (at_length 0) one.1)
-
-    -- no file waits that an entry leads to
-    not_waiting : (C : Settings) (S : TypedRows) → IsWellFormed C S → Agrees S t.reads → row.links ≡ 1 → get S.doomed e.inode ≢ Some Waiting
-    not_waiting C S good agrees one at =
-        let doom = (good.doomed e.inode Waiting at).0 in
-        let same : row.links ≡ doom.0.links = ap (λ (r : InodeRow). r.links) (same_some row doom.0 (is.there S agrees) doom.1) in
-        let zero : doom.0.links ≡ 0 = doom.3 in
-        omega arith
-
-    one_left : (C : Settings) (S : TypedRows) → IsWellFormed C S → Agrees S t.reads → row.links < 2 → row.links ≡ 1
-    one_left C S good agrees last = let some = entry_links C S good dir name e (entry.there S agrees) row (is.there S agrees) other in omega arith
-
-    pub waiting_done : IsTrue (time.fits stamp) → row.links < 2 → e.kind ≡ kinds.File → u ≡ record t { writes = put_writes (waiting_puts dir name e.inode (recounted stamp 0 row)) }
-        → IsEndStep link.Unlink stamp (AtParent dir name) t u (steps.Commit Done asked)
-    waiting_done time_ok last file after = commits (waiting_puts dir name e.inode (recounted stamp 0 row)) are after makes
-      where
-        are : (C : Settings) → ArePuts C t.reads (waiting_puts dir name e.inode (recounted stamp 0 row))
-        are C = (
-          waiting_put C t.reads e.inode small (λ S good agrees. not_waiting C S good agrees (one_left C S good agrees last)),
-          (
-            row_put C t.reads e.inode small row is.there stamp 0 time_ok (λ S good agrees. let one = one_left C S good agrees last in (omega arith, (λ q. omega arith))),
-            (entry_taken C t.reads dir name low named e entry.there, tt),
-          ),
-        )
-
-        makes : (C : Settings) → MakesPuts C outcome t.reads (waiting_puts dir name e.inode (recounted stamp 0 row)) Done
-        makes C S good agrees =
-            let one = unlink_waits C S good stamp dir name e (entry.there S agrees) row (is.there S agrees) other (one_left C S good agrees last) file in
-            (one.0, ap (at_length 0) one.1)
-
-    pub gone_done : row.links < 2 → e.kind ≡ kinds.Link → u ≡ record t { writes = put_writes (gone_puts dir name e.inode) } → IsEndStep link.Unlink stamp (AtParent dir name) t u (steps.Commit Done asked)
-    gone_done last link_kind after = commits (gone_puts dir name e.inode) are after makes
-      where
-        are : (C : Settings) → ArePuts C t.reads (gone_puts dir name e.inode)
-        are C = (node_taken C t.reads e.inode small (λ S good agrees. (row, is.there S agrees)), (entry_taken C t.reads dir name low named e entry.there, tt))
-
-        makes : (C : Settings) → MakesPuts C outcome t.reads (gone_puts dir name e.inode) Done
-        makes C S good agrees =
-            let one = unlink_goes C S good stamp dir name e (entry.there S agrees) row (is.there S agrees) other (one_left C S good agrees last) link_kind in
-            (one.0, ap (at_length 0) one.1)
+    left_done time_ok u asked empty after C =
+        puts_done C areas outcome t u Done asked (unlinked_puts stamp dir name e row) (all_read C t.reads e entry other is.seen)
+        (unlinked_are stamp dir name e row C other t.reads entry is small low named time_ok) after done_fits empty
+        (λ S good agrees.
+        let one = unlinked_made stamp dir name e row C other S good (entry.there S agrees) (is.there S agrees) in
+        (one.0, ap (at_length 0) one.1))

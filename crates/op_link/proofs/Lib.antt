@@ -1,6 +1,5 @@
 pub mod JoinLaws
 pub mod LeaveLaws
-pub mod PutLaws
 pub mod RemoveLaws
 pub mod SourceLaws
 pub mod StartLaws

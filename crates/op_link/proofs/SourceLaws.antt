@@ -1,5 +1,5 @@
 -- A walk that comes to a node that is no directory has come by an entry; what the node's row has then.
-use Rattle.std.proofs.Common.{◌≡◌, ◌≢◌, ℕ, zero, suc, ◌≤◌, ◌==◌, Bool, true, false, cond, List, [], ◌∷◌, ◌++◌, refl, sym, ap, subst, ◌∙◌, arith, eq-eqb}
+use Rattle.std.proofs.Common.{◌≡◌, ◌≢◌, ℕ, zero, suc, ◌≤◌, Bool, true, false, cond, List, [], ◌∷◌, ◌++◌, refl, sym, ap, subst, ◌∙◌}
 use Rattle.std.specs.Prelude.{Option, Some, None, Result, Ok, Err, if◌then◌else◌}
 use Rattle.std.specs.FinMap.{get}
 use Rattle.conflict_sets.specs.declared.sets.ReadSet.{ReadSet}
@@ -15,10 +15,9 @@ use Rattle.inode_record.specs.declared.inode.InodePart.TheVariants as parts
 use Rattle.inode_record.specs.declared.inode.InodeRow.{InodeRow}
 use Rattle.row_records.specs.declared.rows.DentRow.{DentRow}
 use Rattle.row_tree.specs.TreeOf.{tree_of, node_of, node_part}
-use Rattle.row_tree.specs.TypedRows.{TypedRows, kind_of, entries_to, is_to}
+use Rattle.row_tree.specs.TypedRows.{TypedRows, kind_of}
 use Rattle.row_tree.specs.WellFormed.{IsWellFormed}
 use Rattle.row_tree.proofs.Telling.{entry_is, node_is}
-use Rattle.row_tree.proofs.Told.{other_links}
 use Rattle.tree_model.specs.declared.node.Node.{Node}
 use Rattle.tree_model.specs.declared.node.NodePart.{NodePart}
 use Rattle.tree_model.specs.declared.node.NodePart.TheVariants.{Dir, File, Link}
@@ -28,12 +27,12 @@ use Rattle.tree_model.specs.declared.walk.Walked.{Walked}
 use Rattle.tree_model.specs.declared.walk.Walked.TheVariants.{At, AtParent, Stopped}
 use Rattle.tree_model.specs.Tree.{Tree}
 use Rattle.tree_model.specs.Walk.{Trip, Behind, Inode, Entry, stay, visiting, ends_at, at_file, is_last_of_parent, is_last_unfollowed, on_target, at_link, at_part, at_node, at_entry, down, walk, if_dir, from_base}
-use Rattle.tree_model.proofs.MapLaws.{not_some, none_of_count, same_some, some_injective, names}
-use Rattle.txn_task.specs.Agreeing.{Agrees}
+use Rattle.tree_model.proofs.MapLaws.{not_some, some_injective}
 use Rattle.path_walk.specs.Stages.{trip_at}
-use Rattle.path_walk.specs.Walks.{HasEnd, trip_of}
+use Rattle.path_walk.specs.Walks.{HasEnd}
 use Rattle.path_walk.specs.declared.stage.Stage.{Stage}
 use Rattle.path_walk.specs.declared.stage.Stage.TheVariants as stages
+use Rattle.path_walk.proofs.UnlinkLaws.{counted_links}
 use Rattle.path_walk.proofs.WalkLaws.{same_end}
 use Rattle.op_link.specs.Ending.{HasSource, IsLeaf, IsNoDir}
 
@@ -138,22 +137,6 @@ no_dir_part : (part : InodePart) → IsNoDir (node_part part) → kind_of part �
 no_dir_part (parts.Dir parent chunk stripe) other k = other
 no_dir_part (parts.File length truncs layout hint) other k = cc
 no_dir_part (parts.Link target) other k = cc
-
--- a node counts the entry that leads to it
-module _ (C : Settings) (S : TypedRows) (good : IsWellFormed C S) (dir : ℕ) (name : List ℕ) (e : DentRow) (at : get S.dents (dir, name) ≡ Some e) (row : InodeRow) (there : get S.inodes e.inode ≡ Some row) where
-  counted_links : kind_of row.part ≢ kinds.Dir → 1 ≤ row.links
-  counted_links other = by (entries_to S e.inode) refl
-    where
-      by : (n : ℕ) → entries_to S e.inode ≡ n → 1 ≤ row.links
-      by zero none =
-          let passed : false ≡ true = sym (none_of_count names (is_to e.inode) S.dents (dir, name) e none at) ∙ eq-eqb e.inode e.inode refl in
-          absurd (cc)
-      by (suc n) some = let c : row.links ≡ suc n = other_links C S good e.inode row there other ∙ some in omega arith
-
-  pub entry_links : e.kind ≢ kinds.Dir → 1 ≤ row.links
-  entry_links other =
-      let target = (good.entry dir name e at).target in
-      counted_links (λ k. other (sym (ap (λ (r : InodeRow). kind_of r.part) (same_some row target.0 there target.1) ∙ target.2) ∙ k))
 
 module _ (C : Settings) (S : TypedRows) (good : IsWellFormed C S) (id : ℕ) (leaf : IsLeaf (tree_of S) id) where
   pub source_there : get S.inodes id ≢ None

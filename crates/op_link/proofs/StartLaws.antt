@@ -1,8 +1,6 @@
 -- How a call that adds an entry or takes one away begins.
-use Rattle.std.proofs.Common.{◌≡◌, ℕ, refl, sym, ap, ◌∙◌}
-use Rattle.std.specs.Prelude.{IsTrue, Result, Ok, Err, None}
-use Rattle.std.proofs.lemmas.Bool.{and_parts}
-use Rattle.byte_fields.specs.Fields.{time}
+use Rattle.std.proofs.Common.{◌≡◌, ℕ, refl, ap, ◌∙◌}
+use Rattle.std.specs.Prelude.{Result, Ok, Err}
 use Rattle.fs_base.specs.Config.{Settings}
 use Rattle.fs_base.specs.Paths.{path_of}
 use Rattle.fs_base.specs.declared.call.Call.{Call}
@@ -11,7 +9,6 @@ use Rattle.fs_base.specs.declared.call.Place.{Place}
 use Rattle.fs_base.specs.declared.call.Request.{Request}
 use Rattle.fs_base.specs.declared.code.Code.{Code}
 use Rattle.fs_base.specs.declared.path.Path.{Path}
-use Rattle.row_records.specs.Calls.{call, stamped_call, is_call}
 use Rattle.tree_model.specs.declared.walk.WalkEnd.TheVariants.{NoFollow, Parent}
 use Rattle.tree_model.specs.declared.walk.Walked.{Walked}
 use Rattle.tree_model.specs.declared.walk.Walked.TheVariants.{Stopped}
@@ -75,9 +72,3 @@ module _ (C : Settings) (task : LinkTask) (q : Request) (at : Place) (stamp : ta
 
   pub begins_areas : (T : Tree) → areas_of task T ≡ call_areas C T q.server q.call
   begins_areas T = ap (λ (trip : Trip). trip_areas trip (reads_at task.call T)) (starts T) ∙ is_area C T q.server q.call task.call at is
-
--- ---- numbers in their ranges
-
-pub stamp_fits : (stamp : ℕ) (what : Call) → IsTrue (is_call (stamp, what)) → IsTrue (time.fits stamp)
-unfolding stamped_call
-stamp_fits stamp what fits = (and_parts (time.fits stamp) (call.fits what) fits).0

@@ -8,10 +8,9 @@ use Rattle.fs_base.specs.declared.kind.Kind.{Kind}
 use Rattle.fs_base.specs.declared.kind.Kind.TheVariants as kinds
 use Rattle.inode_record.specs.declared.inode.InodeRow.{InodeRow}
 use Rattle.key_schema.specs.declared.key.Key.TheVariants as keys
-use Rattle.row_records.specs.declared.rows.DentRow.{DentRow}
 use Rattle.row_tree.specs.TreeOf.{tree_of}
 use Rattle.row_tree.specs.TypedRows.{TypedRows}
-use Rattle.row_tree.specs.WellFormed.{IsWellFormed, HasKind}
+use Rattle.row_tree.specs.WellFormed.{IsWellFormed}
 use Rattle.tree_model.specs.declared.node.Node.{Node}
 use Rattle.tree_model.specs.declared.node.NodePart.{NodePart}
 use Rattle.tree_model.specs.declared.node.NodePart.TheVariants.{Dir, File, Link}
@@ -21,15 +20,13 @@ use Rattle.tree_model.specs.Linking.{link_to}
 use Rattle.tree_model.specs.Tree.{Tree}
 use Rattle.txn_task.specs.Agreeing.{Agrees}
 use Rattle.txn_task.specs.Transactions.{Transaction}
-use Rattle.txn_task.specs.Wanted.{IsKeyRead, IsUnread}
+use Rattle.txn_task.specs.Wanted.{IsKeyRead}
 use Rattle.txn_task.specs.declared.messages.OpStep.{OpStep}
-use Rattle.path_walk.specs.Directories.{IsDirRead}
-use Rattle.path_walk.specs.Footprint.{name_at}
+use Rattle.path_walk.specs.Directories.{IsDirRead, IsRowRead}
+use Rattle.path_walk.specs.Footprint.{name_at, way_to}
 use Rattle.path_walk.specs.Owed.{HasDone}
 use Rattle.path_walk.specs.Stages.{does, looks}
-use Rattle.op_link.specs.Link.{does_at, reads_at, way_to}
-use Rattle.op_link.specs.declared.join.InDir.{InDir}
-use Rattle.op_link.specs.declared.join.InDir.TheVariants as found
+use Rattle.op_link.specs.Link.{does_at, reads_at}
 use Rattle.op_link.specs.declared.task.LinkCall.{LinkCall}
 
 -- under whatever configuration it reads what the call reads there, and does what the call does there
@@ -69,22 +66,6 @@ IsSource reads id = (C : Settings) (S : TypedRows) → IsWellFormed C S → Agre
 -- where a way has come to a node that is no directory, an entry leads there
 abbrev pub HasSource : ReadSet → Walked → Type 0
 HasSource reads walked = (id : ℕ) (kind : Kind) → walked ≡ At id kind → kind ≢ kinds.Dir → IsSource reads id
-
--- its row is still to be asked for, or no well-formed rows that agree have a directory there, or all have one
-abbrev pub IsInDir : InDir → ReadSet → ℕ → Type 0
-IsInDir (found.Ask key) reads dir = (key ≡ keys.Inode dir) × IsUnread reads (keys.Inode dir)
-IsInDir found.NotDir reads dir = IsKeyRead reads (keys.Inode dir) × ((C : Settings) (S : TypedRows) → IsWellFormed C S → Agrees S reads → HasKind S dir kinds.Dir → ⊥)
-IsInDir found.Dir reads dir = IsDirRead reads dir
-
--- an entry that was read
-pub record IsEntryRead (reads : ReadSet) (dir : ℕ) (name : List ℕ) (entry : DentRow) : Type 0 where
-  pub seen : IsKeyRead reads (keys.Dent dir name)
-  pub there : (S : TypedRows) → Agrees S reads → get S.dents (dir, name) ≡ Some entry
-
--- the row of an inode that was read
-pub record IsRowRead (reads : ReadSet) (id : ℕ) (row : InodeRow) : Type 0 where
-  pub seen : IsKeyRead reads (keys.Inode id)
-  pub there : (S : TypedRows) → Agrees S reads → get S.inodes id ≡ Some row
 
 -- the directory is there, the name is free in it, and the node has this row
 pub record MayJoin (reads : ReadSet) (dir : ℕ) (name : List ℕ) (id : ℕ) (row : InodeRow) : Type 0 where

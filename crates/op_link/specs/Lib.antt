@@ -1,4 +1,3 @@
 pub mod Beginning
 pub mod Ending
 pub mod Link
-pub mod Puts

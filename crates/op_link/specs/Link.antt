@@ -1,17 +1,14 @@
 -- What link, unlink or rmdir under way comes to, and what it still reads.
-use Rattle.std.specs.Prelude.{ℕ, IsTrue, List, None}
+use Rattle.std.specs.Prelude.{ℕ, IsTrue, List}
 use Rattle.byte_fields.specs.Fields.{time}
 use Rattle.fs_base.specs.declared.call.Call.{Call}
 use Rattle.fs_base.specs.declared.call.Call.TheVariants as calls
-use Rattle.fs_base.specs.declared.call.Place.{Place}
-use Rattle.tree_model.specs.declared.walk.WalkEnd.TheVariants.{Parent}
 use Rattle.tree_model.specs.declared.walk.Walked.{Walked}
 use Rattle.tree_model.specs.Effects.{Effect}
 use Rattle.tree_model.specs.Linking.{link_at, unlink_at, rmdir_at}
 use Rattle.tree_model.specs.Tree.{Tree}
-use Rattle.tree_model.specs.Walk.{Trip}
 use Rattle.path_walk.specs.Areas.{Area}
-use Rattle.path_walk.specs.Footprint.{trip_from, joined_at, unlinked_at, emptied_at}
+use Rattle.path_walk.specs.Footprint.{way_to, joined_at, unlinked_at, emptied_at}
 use Rattle.path_walk.specs.Stages.{does, looks, trip_at}
 use Rattle.op_link.specs.declared.task.LinkCall.{LinkCall}
 use Rattle.op_link.specs.declared.task.LinkCall.TheVariants as link
@@ -23,10 +20,6 @@ IsLinkCall (calls.Link from to) = Unit {0}
 IsLinkCall (calls.Unlink place) = Unit {0}
 IsLinkCall (calls.Rmdir place) = Unit {0}
 IsLinkCall _ = ⊥
-
--- the way to where a new entry comes
-abbrev pub way_to : Place → Tree → Trip
-way_to to = trip_from to Parent None
 
 -- what the call does where its way ends; link has a second way from there
 abbrev pub does_at : LinkCall → ℕ → Tree → Walked → Effect

@@ -1,40 +1,15 @@
 ghost use Rattle.std.specs.Prelude.{◌≡◌, [], IfOk, IsTrue};
 ghost use Rattle.byte_fields.specs.Fields.{time};
 ghost use Rattle.tree_model.specs.declared.walk.Walked.TheVariants.{AtParent};
-ghost use Rattle.op_link.specs.Ending.{IsInDir, IsJoinStep, IsSource, MayJoin};
+ghost use Rattle.op_link.specs.Ending.{IsJoinStep, IsSource, MayJoin};
 
-use crate::rows::{in_range, put_joined, recounted};
 use fs_base::limits::LINK_COUNT;
 use fs_base::{Code, InodeId, Items, Limit, Memory, Name, Reply};
-use inode_record::{InodePart, InodeRow};
-use key_schema::Key;
+use inode_record::InodeRow;
+use path_walk::{InDir, in_dir, in_range, put_joined, recounted};
 use std::alloc::Global;
 use tree_model::Walked;
 use txn_task::{Ask, OpStep, Txn, Want, want_dent, want_inode};
-
-/// What is known of the directory that an entry is to come in.
-#[derive(Drop)]
-pub(crate) enum InDir {
-    /// Its row is still to be asked for.
-    Ask(Key),
-    /// It is none.
-    NotDir,
-    Dir,
-}
-
-fn in_dir(alloc: Global, txn: &Txn, dir: InodeId) -> Result<InDir, Memory>
-    ensures { IfOk result (λ found. IsInDir found txn.now.reads dir) }
-{
-    let row = match want_inode(alloc, txn, dir)? {
-        Want::Ask(key) => return Ok(InDir::Ask(key)),
-        Want::Absent => return Ok(InDir::NotDir),
-        Want::There(row) => row,
-    };
-    match &row.part {
-        InodePart::Dir { .. } => Ok(InDir::Dir),
-        _ => Ok(InDir::NotDir),
-    }
-}
 
 /// Where the walk to the new entry's place ends: the node with this id gets the entry.
 pub(crate) fn join_at(

@@ -5,7 +5,6 @@ mod join;
 mod link;
 mod next;
 mod rmdir;
-mod rows;
 mod task;
 mod unlink;
 

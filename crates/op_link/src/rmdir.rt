@@ -1,11 +1,12 @@
 ghost use Rattle.std.specs.Prelude.{◌≡◌, ℕ, [], IfOk};
 ghost use Rattle.fs_base.specs.declared.kind.Kind.TheVariants as kinds;
 ghost use Rattle.tree_model.specs.declared.walk.Walked.TheVariants.{AtParent};
-ghost use Rattle.op_link.specs.Ending.{IsEndStep, IsEntryRead};
+ghost use Rattle.path_walk.specs.Directories.{IsEntryRead};
+ghost use Rattle.op_link.specs.Ending.{IsEndStep};
 ghost use Rattle.op_link.specs.declared.task.LinkCall.TheVariants as link;
 
-use crate::rows::{in_range, put_gone};
 use fs_base::{Code, InodeId, Items, Kind, Memory, Name, Reply};
+use path_walk::{in_range, put_gone};
 use row_records::DentRow;
 use std::alloc::Global;
 use tree_model::Walked;

@@ -1,13 +1,13 @@
-ghost use Rattle.std.specs.Prelude.{◌≡◌, ◌≢◌, ◌<◌, ◌≤◌, [], IfOk, IsTrue};
+ghost use Rattle.std.specs.Prelude.{◌≡◌, ◌≢◌, [], IfOk, IsTrue};
 ghost use Rattle.byte_fields.specs.Fields.{time};
 ghost use Rattle.fs_base.specs.declared.kind.Kind.TheVariants as kinds;
 ghost use Rattle.tree_model.specs.declared.walk.Walked.TheVariants.{AtParent};
-ghost use Rattle.op_link.specs.Ending.{IsEndStep, IsEntryRead, IsRowRead};
+ghost use Rattle.path_walk.specs.Directories.{IsEntryRead};
+ghost use Rattle.op_link.specs.Ending.{IsEndStep};
 ghost use Rattle.op_link.specs.declared.task.LinkCall.TheVariants as link;
 
-use crate::rows::{in_range, put_gone, put_left, put_waiting, recounted};
 use fs_base::{Code, InodeId, Items, Kind, Memory, Name, Reply};
-use inode_record::InodeRow;
+use path_walk::{in_range, put_unlinked};
 use row_records::DentRow;
 use std::alloc::Global;
 use tree_model::Walked;
@@ -78,67 +78,8 @@ fn leave(
         Want::Ask(key) => Ok(OpStep::Ask(Ask::Get(key))),
         Want::Absent => Ok(OpStep::Reply(Reply::Refused(Code::NotFound))),
         Want::There(row) => {
-            if row.links >= 2 {
-                return put_fewer(alloc, txn, stamp, dir, name, entry, row);
-            }
-            put_last(alloc, txn, stamp, dir, name, entry, row)
-        }
-    }
-}
-
-/// Other entries are left.
-fn put_fewer(
-    alloc: Global,
-    txn: &mut Txn,
-    stamp: u64,
-    dir: InodeId,
-    name: &Name,
-    entry: DentRow,
-    row: InodeRow,
-) -> Result<OpStep, Memory>
-    requires stamp { IsTrue (time.fits stamp) }
-    requires writes { txn.old.writes ≡ [] }
-    requires entry { IsEntryRead txn.old.reads dir name.now entry }
-    requires no_dir { entry.kind ≢ kinds.Dir }
-    requires row { IsRowRead txn.old.reads entry.inode row }
-    requires more { 2 ≤ row.links }
-    ensures { IfOk result (IsEndStep link.Unlink stamp (AtParent dir name.now) txn.old txn.new) }
-{
-    in_range(dir, name, entry.inode);
-    let links = row.links - 1;
-    let new = recounted(row, links, stamp);
-    put_left(alloc, txn, dir, name, entry.inode, &new)?;
-    Ok(OpStep::Commit(Reply::Done, Items::new(alloc)))
-}
-
-/// It was the last entry: a file waits to be deleted, and a link is gone.
-fn put_last(
-    alloc: Global,
-    txn: &mut Txn,
-    stamp: u64,
-    dir: InodeId,
-    name: &Name,
-    entry: DentRow,
-    row: InodeRow,
-) -> Result<OpStep, Memory>
-    requires stamp { IsTrue (time.fits stamp) }
-    requires writes { txn.old.writes ≡ [] }
-    requires entry { IsEntryRead txn.old.reads dir name.now entry }
-    requires no_dir { entry.kind ≢ kinds.Dir }
-    requires row { IsRowRead txn.old.reads entry.inode row }
-    requires last { row.links < 2 }
-    ensures { IfOk result (IsEndStep link.Unlink stamp (AtParent dir name.now) txn.old txn.new) }
-{
-    in_range(dir, name, entry.inode);
-    match entry.kind {
-        Kind::Dir => unreachable!(),
-        Kind::File => {
-            let new = recounted(row, 0, stamp);
-            put_waiting(alloc, txn, dir, name, entry.inode, &new)?;
-            Ok(OpStep::Commit(Reply::Done, Items::new(alloc)))
-        }
-        Kind::Link => {
-            put_gone(alloc, txn, dir, name, entry.inode)?;
+            in_range(dir, name, entry.inode);
+            put_unlinked(alloc, txn, stamp, dir, name, entry, row)?;
             Ok(OpStep::Commit(Reply::Done, Items::new(alloc)))
         }
     }

@@ -1,6 +1,9 @@
 pub mod AreaLaws
+pub mod ClimbLaws
 pub mod NameLaws
 pub mod PutLaws
+pub mod RowPutLaws
 pub mod StepLaws
+pub mod UnlinkLaws
 pub mod WalkLaws
 pub mod WholeLaws

@@ -1,7 +1,8 @@
--- A name in a directory, and one key more where no entry stands: what was read of them, and which ask is the next.
+-- A name in a directory, and what is read behind it: what was read of them, and which ask is the next.
 use Rattle.std.proofs.Common.{◌≡◌, ℕ, List, [], ◌∷◌, refl, sym, ap, subst, ◌∙◌}
 use Rattle.std.specs.Prelude.{Option, Some, None}
 use Rattle.std.specs.FinMap.{get}
+use Rattle.std.specs.Option.{option_map}
 use Rattle.conflict_sets.specs.declared.sets.ReadSet.{ReadSet}
 use Rattle.fs_base.specs.Config.{Settings}
 use Rattle.fs_base.specs.declared.kind.Kind.TheVariants as kinds
@@ -25,8 +26,8 @@ use Rattle.txn_task.specs.Wanted.{IsKeyRead, IsUnread}
 use Rattle.txn_task.specs.declared.messages.Ask.TheVariants as asks
 use Rattle.txn_task.specs.declared.messages.OpStep.TheVariants as steps
 use Rattle.path_walk.specs.Areas.{Area, OneKey, AreRead}
-use Rattle.path_walk.specs.Directories.{IsDirRead}
-use Rattle.path_walk.specs.Footprint.{name_at, in_dir, in_part, if_free, if_taken}
+use Rattle.path_walk.specs.Directories.{IsDirRead, IsNameRead}
+use Rattle.path_walk.specs.Footprint.{name_at, in_dir, in_named, in_part, if_free, if_taken}
 use Rattle.path_walk.specs.Owed.{HasDone, HasRead, IsJustified, KeepsAreas}
 use Rattle.path_walk.proofs.AreaLaws.{no_areas}
 use Rattle.path_walk.proofs.StepLaws.{tells, asks_key, areas_on, read_behind}
@@ -37,64 +38,83 @@ in_directory (parts.Dir parent chunk stripe) areas k = refl
 in_directory (parts.File length truncs layout hint) areas k = cc
 in_directory (parts.Link target) areas k = cc
 
--- ---- a name that is to be free
+-- ---- a name in a directory
 
-module _ (C : Settings) (last : Key) (effect : Tree → Effect) (dir : ℕ) (name : List ℕ) where
-  abbrev areas : Tree → List Area
-  areas T = name_at last T (AtParent dir name)
+module _ (C : Settings) (more : Tree → Option ℕ → List Area) (effect : Tree → Effect) (dir : ℕ) (name : List ℕ) where
+  abbrev named : Tree → List Area
+  named T = in_named T dir name (more T)
 
-  -- what is read behind the directory's row, and behind the entry
-  abbrev then_last : Tree → List Area
-  then_last T = if_free (get T.entries (dir, name)) (OneKey last ∷ [])
-
+  -- what is read behind the directory's row
   abbrev then_name : Tree → List Area
-  then_name T = OneKey (keys.Dent dir name) ∷ if_free (get T.entries (dir, name)) (OneKey last ∷ [])
+  then_name T = OneKey (keys.Dent dir name) ∷ more T (get T.entries (dir, name))
 
   module _ (t : Transaction) (none : t.writes ≡ []) where
-    pub asks_dir : (key : Key) → (key ≡ keys.Inode dir) × IsUnread t.reads (keys.Inode dir) → HasDone C (λ T. name_at last T (AtParent dir name)) effect t t (steps.Ask (asks.Get key))
-    asks_dir key unread = asks_key C areas effect t none key (keys.Inode dir) (λ T. in_dir (get T.nodes dir) (then_name T)) unread (λ S good agrees. ([], tt, refl))
+    pub asks_its_dir : (key : Key) → (key ≡ keys.Inode dir) × IsUnread t.reads (keys.Inode dir) → HasDone C (λ T. in_named T dir name (more T)) effect t t (steps.Ask (asks.Get key))
+    asks_its_dir key unread = asks_key C named effect t none key (keys.Inode dir) (λ T. in_dir (get T.nodes dir) (then_name T)) unread (λ S good agrees. ([], tt, refl))
 
     -- where no directory is
-    pub nowhere : IsKeyRead t.reads (keys.Inode dir) → ((S : TypedRows) → IsWellFormed C S → Agrees S t.reads → HasKind S dir kinds.Dir → ⊥) → (reply : Reply) → IsJustified C effect t.reads reply
-        → HasDone C (λ T. name_at last T (AtParent dir name)) effect t t (steps.Reply reply)
-    nowhere read not_dir reply told =
-        tells C areas effect t none reply
+    pub without_dir : IsKeyRead t.reads (keys.Inode dir) → ((S : TypedRows) → IsWellFormed C S → Agrees S t.reads → HasKind S dir kinds.Dir → ⊥) → (reply : Reply) → IsJustified C effect t.reads reply
+        → HasDone C (λ T. in_named T dir name (more T)) effect t t (steps.Reply reply)
+    without_dir read not_dir reply told =
+        tells C named effect t none reply
         (λ S good agrees. subst (AreRead t.reads) (sym (ap (λ (l : List Area). OneKey (keys.Inode dir) ∷ l) (no_areas S dir (then_name (tree_of S)) (not_dir S good agrees)))) (read, tt))
         told
 
-  -- ---- in a directory
-
   module _ (reads : ReadSet) (has : IsDirRead reads dir) where
-    behind_dir : KeepsAreas C areas then_name reads
-    behind_dir S good agrees = (
+    behind_its_dir : KeepsAreas C named then_name reads
+    behind_its_dir S good agrees = (
       OneKey (keys.Inode dir) ∷ [],
       (has.seen, tt),
       ap (λ (n : Option Node). OneKey (keys.Inode dir) ∷ in_dir n (then_name (tree_of S))) (node_is S dir (Some has.row) (has.there S agrees))
           ∙ ap (λ (l : List Area). OneKey (keys.Inode dir) ∷ l) (in_directory has.row.part (then_name (tree_of S)) has.is_dir),
     )
 
-    behind_name : IsKeyRead reads (keys.Dent dir name) → KeepsAreas C areas then_last reads
-    behind_name read = areas_on C areas then_name then_last reads behind_dir (λ S good agrees. (OneKey (keys.Dent dir name) ∷ [], (read, tt), refl))
+    pub behind_its_name : (taken : Option DentRow) → IsNameRead reads dir name taken → KeepsAreas C (λ T. in_named T dir name (more T)) (λ T. more T (option_map (λ (e : DentRow). e.inode) taken)) reads
+    behind_its_name taken read =
+        areas_on C named then_name (λ T. more T (option_map (λ (e : DentRow). e.inode) taken)) reads behind_its_dir
+        (λ S good agrees. (OneKey (keys.Dent dir name) ∷ [], (read.seen, tt), ap (λ (o : Option ℕ). OneKey (keys.Dent dir name) ∷ more (tree_of S) o) (entry_is S dir name taken (read.there S agrees))))
 
+  pub asks_its_name : (t : Transaction) → t.writes ≡ [] → IsDirRead t.reads dir → (key : Key) → (key ≡ keys.Dent dir name) × IsUnread t.reads (keys.Dent dir name)
+      → HasDone C (λ T. in_named T dir name (more T)) effect t t (steps.Ask (asks.Get key))
+  asks_its_name t none has key unread = asks_key C named effect t none key (keys.Dent dir name) (λ T. more T (get T.entries (dir, name))) unread (behind_its_dir t.reads has)
+
+-- ---- a name that is to be free
+
+module _ (C : Settings) (last : Key) (effect : Tree → Effect) (dir : ℕ) (name : List ℕ) where
+  abbrev areas : Tree → List Area
+  areas T = name_at last T (AtParent dir name)
+
+  -- one key more
+  abbrev then_last : Tree → Option ℕ → List Area
+  then_last T taken = if_free taken (OneKey last ∷ [])
+
+  module _ (t : Transaction) (none : t.writes ≡ []) where
+    pub asks_dir : (key : Key) → (key ≡ keys.Inode dir) × IsUnread t.reads (keys.Inode dir) → HasDone C (λ T. name_at last T (AtParent dir name)) effect t t (steps.Ask (asks.Get key))
+    asks_dir key unread = asks_its_dir C then_last effect dir name t none key unread
+
+    pub nowhere : IsKeyRead t.reads (keys.Inode dir) → ((S : TypedRows) → IsWellFormed C S → Agrees S t.reads → HasKind S dir kinds.Dir → ⊥) → (reply : Reply) → IsJustified C effect t.reads reply
+        → HasDone C (λ T. name_at last T (AtParent dir name)) effect t t (steps.Reply reply)
+    nowhere read not_dir reply told = without_dir C then_last effect dir name t none read not_dir reply told
+
+  -- ---- in a directory
+
+  module _ (reads : ReadSet) (has : IsDirRead reads dir) where
     behind_free : IsKeyRead reads (keys.Dent dir name) → ((S : TypedRows) → Agrees S reads → get S.dents (dir, name) ≡ None) → KeepsAreas C areas (λ T. OneKey last ∷ []) reads
-    behind_free read free =
-        areas_on C areas then_last (λ T. OneKey last ∷ []) reads (behind_name read)
-        (λ S good agrees. ([], tt, ap (λ (o : Option ℕ). if_free o (OneKey last ∷ [])) (entry_is S dir name None (free S agrees))))
+    behind_free read free = behind_its_name C then_last effect dir name reads has None (record { seen = read; there = free })
 
     pub all_read : IsKeyRead reads (keys.Dent dir name) → ((S : TypedRows) → Agrees S reads → get S.dents (dir, name) ≡ None) → IsKeyRead reads last → HasRead C (λ T. name_at last T (AtParent dir name)) reads
     all_read read free seen = read_behind C areas (λ T. OneKey last ∷ []) reads (behind_free read free) (λ S good agrees. (seen, tt))
 
   module _ (t : Transaction) (none : t.writes ≡ []) (has : IsDirRead t.reads dir) where
     pub asks_name : (key : Key) → (key ≡ keys.Dent dir name) × IsUnread t.reads (keys.Dent dir name) → HasDone C (λ T. name_at last T (AtParent dir name)) effect t t (steps.Ask (asks.Get key))
-    asks_name key unread = asks_key C areas effect t none key (keys.Dent dir name) then_last unread (behind_dir t.reads has)
+    asks_name key unread = asks_its_name C then_last effect dir name t none has key unread
 
     -- where an entry stands
     pub taken : (e : DentRow) → IsKeyRead t.reads (keys.Dent dir name) → ((S : TypedRows) → Agrees S t.reads → get S.dents (dir, name) ≡ Some e) → (reply : Reply) → IsJustified C effect t.reads reply
         → HasDone C (λ T. name_at last T (AtParent dir name)) effect t t (steps.Reply reply)
     taken e read is reply told =
         tells C areas effect t none reply
-        (read_behind C areas then_last t.reads (behind_name t.reads has read)
-        (λ S good agrees. subst (AreRead t.reads) (sym (ap (λ (o : Option ℕ). if_free o (OneKey last ∷ [])) (entry_is S dir name (Some e) (is S agrees)))) tt))
+        (read_behind C areas (λ T. []) t.reads (behind_its_name C then_last effect dir name t.reads has (Some e) (record { seen = read; there = is })) (λ S good agrees. tt))
         told
 
     pub asks_last : (key : Key) → IsKeyRead t.reads (keys.Dent dir name) → ((S : TypedRows) → Agrees S t.reads → get S.dents (dir, name) ≡ None) → (key ≡ last) × IsUnread t.reads last

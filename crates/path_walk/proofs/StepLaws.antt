@@ -1,12 +1,16 @@
 -- Steps of an operation, by its areas and its effect in all well-formed rows that agree with the reads.
 use Rattle.std.proofs.Common.{◌≡◌, List, [], ◌∷◌, ◌++◌, refl, subst, sym, ap, ◌∙◌, inl, ℕ, map}
+use Rattle.std.proofs.lemmas.Bool.{and_parts}
+use Rattle.byte_fields.specs.Fields.{time}
 use Rattle.conflict_sets.specs.declared.sets.ReadSet.{ReadSet}
 use Rattle.fs_base.specs.Config.{Settings}
+use Rattle.fs_base.specs.declared.call.Call.{Call}
 use Rattle.fs_base.specs.declared.call.Request.{Request}
 use Rattle.fs_base.specs.declared.code.Code.{Code}
 use Rattle.fs_base.specs.declared.path.Path.{Path}
 use Rattle.fs_base.specs.declared.reply.Reply.{Reply}
 use Rattle.key_schema.specs.declared.key.Key.{Key}
+use Rattle.row_records.specs.Calls.{call, stamped_call, is_call}
 use Rattle.row_tree.specs.TreeOf.{tree_of}
 use Rattle.tree_model.specs.Effects.{Effect, at_length, on_path, refuses, settled_by}
 use Rattle.tree_model.specs.Tree.{Tree}
@@ -21,7 +25,7 @@ use Rattle.txn_task.proofs.TxnLaws.{agrees_noted}
 use Rattle.path_walk.specs.Areas.{Area, OneKey, AreRead, IsNextOf, visited, trip_areas}
 use Rattle.path_walk.specs.Owed.{IsJustified, IsNewAsk, IsOpStep, HasDone, HasRead, MayAsk, KeepsEffect, KeepsAreas, IsKeptBefore, HasStepped}
 use Rattle.path_walk.proofs.AreaLaws.{read_both, next_behind, append_twice, are_read_more, seen_read, areas_after}
-use Rattle.std.specs.Prelude.{Option, Some, None, Result, Ok, Err}
+use Rattle.std.specs.Prelude.{IsTrue, Option, Some, None, Result, Ok, Err}
 use Rattle.tree_model.specs.declared.walk.WalkEnd.{WalkEnd}
 use Rattle.tree_model.specs.declared.walk.Walked.{Walked}
 use Rattle.tree_model.specs.declared.walk.Walked.TheVariants.{Stopped}
@@ -181,3 +185,8 @@ from_words effect stops T base end (Ok path) (Some code) = stops code
 pub same_path : (r : Result Path Code) (f g : Path → Effect) → ((path : Path) → f path ≡ g path) → on_path r f ≡ on_path r g
 same_path (Ok path) f g same = same path
 same_path (Err code) f g same = refl
+
+-- a request's time is one that a row may have
+pub stamp_fits : (stamp : ℕ) (what : Call) → IsTrue (is_call (stamp, what)) → IsTrue (time.fits stamp)
+unfolding stamped_call
+stamp_fits stamp what fits = (and_parts (time.fits stamp) (call.fits what) fits).0

@@ -1,5 +1,5 @@
 -- What a call reads in a tree, in the order of its asks: the list ends where the call is decided.
-use Rattle.std.specs.Prelude.{ℕ, nat_lt, List, [], ◌∷◌, Option, Some, None, Result, Ok, Err, if◌then◌else◌}
+use Rattle.std.specs.Prelude.{ℕ, nat_lt, ◌==◌, List, [], ◌∷◌, ◌++◌, Option, Some, None, Result, Ok, Err, if◌then◌else◌}
 use Rattle.std.specs.FinMap.{get}
 use Rattle.fs_base.specs.Config.{Settings}
 use Rattle.fs_base.specs.declared.call.Call.{Call}
@@ -7,6 +7,7 @@ use Rattle.fs_base.specs.declared.call.Call.TheVariants as calls
 use Rattle.fs_base.specs.declared.call.Place.{Place}
 use Rattle.fs_base.specs.declared.call.Request.{Request}
 use Rattle.fs_base.specs.declared.code.Code.{Code}
+use Rattle.fs_base.specs.declared.kind.Kind.{Kind}
 use Rattle.fs_base.specs.declared.kind.Kind.TheVariants as kinds
 use Rattle.fs_base.specs.declared.path.Path.{Path}
 use Rattle.fs_base.specs.Paths.{path_of}
@@ -22,12 +23,16 @@ use Rattle.tree_model.specs.declared.walk.WalkEnd.{WalkEnd}
 use Rattle.tree_model.specs.declared.walk.WalkEnd.TheVariants.{Follow, NoFollow, Parent}
 use Rattle.tree_model.specs.declared.walk.Walked.{Walked}
 use Rattle.tree_model.specs.declared.walk.Walked.TheVariants.{At, AtParent, Stopped}
+use Rattle.tree_model.specs.Attributes.{kind_of_part}
 use Rattle.tree_model.specs.Calls.{is_query}
 use Rattle.tree_model.specs.Creating.{new_dir, new_file, new_link}
+use Rattle.tree_model.specs.Linking.{is_empty_dir}
+use Rattle.tree_model.specs.Moving.{is_below}
 use Rattle.tree_model.specs.Tree.{Tree}
 use Rattle.tree_model.specs.Walk.{Trip, stay, travel}
 use Rattle.path_walk.specs.Areas.{Area, OneKey, FirstRow, entries, trip_areas}
-use Rattle.path_walk.specs.Faults.{node_fault, refusal}
+use Rattle.path_walk.specs.Climbing.{climbed}
+use Rattle.path_walk.specs.Faults.{move_fault, node_fault, refusal}
 
 -- ---- the way of a call
 
@@ -43,6 +48,10 @@ on_words (Ok path) trip = trip path
 -- the place's fault, else the call's other one, else the walk of the place
 abbrev pub trip_from : Place → WalkEnd → Option Code → Tree → Trip
 trip_from place end fault T = on_words (path_of place.text) (λ path. unless_fault fault (travel T place.base path end))
+
+-- the way to where an entry is to come
+abbrev pub way_to : Place → Tree → Trip
+way_to to = trip_from to Parent None
 
 abbrev pub along : Tree → Place → WalkEnd → Option Code → (Walked → List Area) → List Area
 along T place end fault at = trip_areas (trip_from place end fault T) at
@@ -78,9 +87,14 @@ abbrev pub if_free : Option ℕ → List Area → List Area
 if_free None areas = areas
 if_free (Some id) areas = []
 
--- the directory, the name in it, and one key more where no entry stands
+-- the directory, the name in it, and more by what stands there
+abbrev pub in_named : Tree → ℕ → List ℕ → (Option ℕ → List Area) → List Area
+in_named T dir name more =
+    OneKey (keys.Inode dir) ∷ in_dir (get T.nodes dir) (OneKey (keys.Dent dir name) ∷ more (get T.entries (dir, name)))
+
+-- one key more where no entry stands
 abbrev pub name_at : Key → Tree → Walked → List Area
-name_at last T (AtParent dir name) = OneKey (keys.Inode dir) ∷ in_dir (get T.nodes dir) (OneKey (keys.Dent dir name) ∷ if_free (get T.entries (dir, name)) (OneKey last ∷ []))
+name_at last T (AtParent dir name) = in_named T dir name (λ taken. if_free taken (OneKey last ∷ []))
 name_at last T _ = []
 
 -- that of the server's next number
@@ -122,6 +136,52 @@ abbrev pub emptied_at : Tree → Walked → List Area
 emptied_at T (AtParent dir name) = OneKey (keys.Dent dir name) ∷ if_taken (get T.entries (dir, name)) (λ id. in_dir (get T.nodes id) (FirstRow (dir_prefix id) (raised (dir_prefix id)) ∷ []))
 emptied_at T _ = []
 
+-- ---- an entry moved
+
+-- a directory that moves is read last, where a directory in its way turns out to be empty
+abbrev pub dir_moved : Tree → ℕ → Option ℕ → List Area
+dir_moved T id None = OneKey (keys.Inode id) ∷ []
+dir_moved T id (Some old) =
+    in_dir (get T.nodes old)
+    (FirstRow (dir_prefix old) (raised (dir_prefix old)) ∷ (if is_empty_dir T old then OneKey (keys.Inode id) ∷ [] else []))
+
+-- of another node nothing is read but what it takes the place of
+abbrev pub other_moved : Tree → Option ℕ → List Area
+other_moved T None = []
+other_moved T (Some old) = unless_dir (get T.nodes old) (OneKey (keys.Inode old) ∷ [])
+
+-- a directory's way up comes first, and ends it where it would come to lie in itself
+abbrev pub kind_moved : Tree → Kind → ℕ → ℕ → Option ℕ → List Area
+kind_moved T kinds.Dir id dir taken = climbed T id dir ++ (if is_below T id dir then [] else dir_moved T id taken)
+kind_moved T kinds.File id dir taken = other_moved T taken
+kind_moved T kinds.Link id dir taken = other_moved T taken
+
+abbrev pub unless_same : ℕ → Option ℕ → List Area → List Area
+unless_same id None areas = areas
+unless_same id (Some old) areas = if old == id then [] else areas
+
+-- what is read once both entries are known; two names of one node stay as they are
+abbrev pub moved_at : Tree → Kind → ℕ → ℕ → Option ℕ → List Area
+moved_at T kind id dir taken = unless_same id taken (kind_moved T kind id dir taken)
+
+-- where the second walk ends: the directory, and the entry there
+abbrev pub placed_at : Tree → Kind → ℕ → Walked → List Area
+placed_at T kind id (AtParent dir name) = in_named T dir name (moved_at T kind id dir)
+placed_at T kind id _ = []
+
+-- the second walk is that of an entry's node
+abbrev pub if_node : Option Node → (Node → List Area) → List Area
+if_node None at = []
+if_node (Some node) at = at node
+
+abbrev pub carried : Tree → Place → ℕ → List Area
+carried T to id = if_node (get T.nodes id) (λ node. along T to Parent None (placed_at T (kind_of_part node.part) id))
+
+-- where the first walk ends: the entry, and the second walk
+abbrev pub renamed_at : Tree → Place → Walked → List Area
+renamed_at T to (AtParent dir name) = OneKey (keys.Dent dir name) ∷ if_taken (get T.entries (dir, name)) (carried T to)
+renamed_at T to _ = []
+
 -- ---- the calls
 
 abbrev pub call_areas : Settings → Tree → ℕ → Call → List Area
@@ -136,6 +196,7 @@ call_areas C T server (calls.Setattr place changes) = along T place Follow None 
 call_areas C T server (calls.Link from to) = along T from NoFollow (refusal (path_of to.text)) (joined_at T to)
 call_areas C T server (calls.Unlink place) = along T place Parent None (unlinked_at T)
 call_areas C T server (calls.Rmdir place) = along T place Parent None (emptied_at T)
+call_areas C T server (calls.Rename from to) = along T from Parent (move_fault from to) (renamed_at T to)
 call_areas C T server _ = []
 
 -- a kept reply whose number isn't smaller decides

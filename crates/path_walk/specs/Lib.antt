@@ -1,10 +1,12 @@
 pub mod Areas
+pub mod Climbing
 pub mod Directories
 pub mod Faults
 pub mod Footprint
 pub mod Owed
 pub mod Puts
 pub mod Requests
+pub mod RowPuts
 pub mod Sound
 pub mod Stages
 pub mod Walks

@@ -196,6 +196,13 @@ impl Txn {
         version_in(self.reads.keys.as_slice(), self.versions.as_slice(), key)
     }
 
+    /// How many keys were read.
+    pub fn keys_read(&self) -> usize
+        ensures { result ≡ length self.now.reads.keys }
+    {
+        self.reads.keys.len()
+    }
+
     pub(crate) fn ranges(&self) -> &[RangeRead]
         ensures { result.now ≡ self.now.reads.ranges }
     {

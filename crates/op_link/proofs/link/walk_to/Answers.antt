@@ -1,10 +1,8 @@
-use Rattle.std.proofs.Common.{refl}
 use Rattle.key_schema.specs.declared.key.Key.TheVariants as keys
-use Rattle.path_walk.specs.Footprint.{name_at}
+use Rattle.path_walk.specs.Footprint.{name_at, way_to}
 use Rattle.path_walk.specs.Stages.{trip_at}
 use Rattle.path_walk.proofs.StepLaws.{begun_done, way_asks, way_ends}
 use Rattle.tree_model.specs.Linking.{link_to}
-use Rattle.op_link.specs.Link.{way_to}
 use Rattle.op_link.proofs.link.walk_to.Goals as goal
 
 pub returns-in-Ask : goal.returns-in-Ask

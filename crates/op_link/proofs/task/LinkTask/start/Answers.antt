@@ -1,6 +1,7 @@
 use Rattle.std.proofs.Common.{false, refl}
 use Rattle.op_link.specs.declared.task.LinkTask.{LinkTask}
-use Rattle.op_link.proofs.StartLaws.{begins_so, begins_areas, stamp_fits}
+use Rattle.path_walk.proofs.StepLaws.{stamp_fits}
+use Rattle.op_link.proofs.StartLaws.{begins_so, begins_areas}
 use Rattle.op_link.proofs.task.LinkTask.start.Goals as goal
 
 pub returns-clause-effect : goal.returns-clause-effect
