@@ -1,6 +1,6 @@
 -- What link owes where its ways end, by what is known of the rows.
-use Rattle.std.proofs.Common.{◌≡◌, ◌≢◌, ℕ, ◌+◌, ◌<◌, ◌≤◌, ◌^◌, List, [], ◌∷◌, refl, sym, ap, subst, ◌∙◌, arith}
-use Rattle.std.specs.Prelude.{IsTrue, Option, Some, None}
+use Rattle.std.proofs.Common.{◌≡◌, ◌≢◌, ℕ, ◌+◌, ◌<◌, ◌≤◌, ◌^◌, List, [], refl, ap, arith}
+use Rattle.std.specs.Prelude.{IsTrue, Some, None}
 use Rattle.std.specs.FinMap.{get}
 use Rattle.byte_fields.specs.Fields.{time}
 use Rattle.conflict_sets.specs.declared.sets.ReadSet.{ReadSet}

@@ -1,5 +1,5 @@
 -- What unlink owes where its way ends, by what is known of the rows.
-use Rattle.std.proofs.Common.{◌≡◌, ◌≢◌, ℕ, ◌-◌, ◌<◌, ◌≤◌, ◌^◌, List, [], ◌∷◌, refl, sym, ap, subst, ◌∙◌, arith}
+use Rattle.std.proofs.Common.{◌≡◌, ◌≢◌, ℕ, ◌<◌, ◌^◌, List, [], ◌∷◌, refl, sym, ap, subst, ◌∙◌}
 use Rattle.std.specs.Prelude.{IsTrue, Option, Some, None}
 use Rattle.std.specs.FinMap.{get}
 use Rattle.byte_fields.specs.Fields.{time}
@@ -18,11 +18,8 @@ use Rattle.key_schema.specs.declared.key.Key.{Key}
 use Rattle.key_schema.specs.declared.key.Key.TheVariants as keys
 use Rattle.row_records.proofs.InRange.{done_fits}
 use Rattle.row_records.specs.declared.rows.DentRow.{DentRow}
-use Rattle.row_records.specs.declared.rows.GcRow.TheVariants.{Waiting}
-use Rattle.row_tree.specs.Steps.{recounted}
 use Rattle.row_tree.specs.TreeOf.{tree_of, node_part}
 use Rattle.row_tree.specs.TypedRows.{TypedRows, kind_of}
-use Rattle.row_tree.specs.Values.{Value}
 use Rattle.row_tree.specs.WellFormed.{IsWellFormed}
 use Rattle.row_tree.proofs.Detaching.{unlink_absent, unlink_dir}
 use Rattle.row_tree.proofs.Telling.{node_is}
@@ -31,7 +28,7 @@ use Rattle.tree_model.specs.declared.walk.Walked.TheVariants.{At, AtParent, NoNa
 use Rattle.tree_model.specs.Effects.{Effect, at_length}
 use Rattle.tree_model.specs.Linking.{unlink_at}
 use Rattle.tree_model.specs.Tree.{Tree}
-use Rattle.tree_model.proofs.MapLaws.{not_some, same_some}
+use Rattle.tree_model.proofs.MapLaws.{not_some}
 use Rattle.txn_task.specs.Agreeing.{Agrees}
 use Rattle.txn_task.specs.Transactions.{Transaction}
 use Rattle.txn_task.specs.Wanted.{IsKeyRead, IsUnread}
@@ -41,7 +38,7 @@ use Rattle.txn_task.specs.declared.messages.OpStep.TheVariants as steps
 use Rattle.path_walk.specs.Areas.{Area, OneKey, AreRead}
 use Rattle.path_walk.specs.Footprint.{beside_part, unless_dir, unlinked_at}
 use Rattle.path_walk.specs.Owed.{HasRead, KeepsAreas}
-use Rattle.path_walk.specs.Puts.{ArePuts, MakesPuts, put_writes}
+use Rattle.path_walk.specs.Puts.{put_writes}
 use Rattle.path_walk.proofs.NameLaws as names
 use Rattle.path_walk.proofs.PutLaws.{puts_done}
 use Rattle.path_walk.proofs.StepLaws.{areas_on, asks_key, read_behind, tells}

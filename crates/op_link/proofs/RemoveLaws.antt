@@ -1,5 +1,5 @@
 -- What rmdir owes where its way ends, by what is known of the rows.
-use Rattle.std.proofs.Common.{◌≡◌, ◌≢◌, ℕ, ◌<◌, ◌≤◌, ◌^◌, List, [], ◌∷◌, refl, sym, ap, subst, ◌∙◌, inl, arith}
+use Rattle.std.proofs.Common.{◌≡◌, ◌≢◌, ℕ, ◌<◌, ◌^◌, List, [], ◌∷◌, refl, sym, ap, subst, ◌∙◌, inl, arith}
 use Rattle.std.specs.Prelude.{IsTrue, Option, Some, None}
 use Rattle.std.specs.FinMap.{get}
 use Rattle.conflict_sets.specs.declared.sets.ReadSet.{ReadSet}
@@ -12,7 +12,6 @@ use Rattle.fs_base.specs.declared.kind.Kind.TheVariants as kinds
 use Rattle.fs_base.specs.declared.reply.Reply.TheVariants.{Done, Refused}
 use Rattle.inode_record.specs.declared.inode.InodePart.{InodePart}
 use Rattle.inode_record.specs.declared.inode.InodePart.TheVariants as parts
-use Rattle.inode_record.specs.declared.inode.InodeRow.{InodeRow}
 use Rattle.key_schema.specs.Ranges.{dir_prefix, raised}
 use Rattle.key_schema.specs.declared.key.Key.{Key}
 use Rattle.key_schema.specs.declared.key.Key.TheVariants as keys
@@ -38,7 +37,7 @@ use Rattle.txn_task.specs.declared.messages.OpStep.TheVariants as steps
 use Rattle.path_walk.specs.Areas.{Area, FirstRow, AreRead}
 use Rattle.path_walk.specs.Footprint.{emptied_at, in_dir, in_part}
 use Rattle.path_walk.specs.Owed.{HasDone, HasRead, KeepsAreas}
-use Rattle.path_walk.specs.Puts.{ArePuts, IsPut, MakesPuts, put_writes}
+use Rattle.path_walk.specs.Puts.{ArePuts, MakesPuts, put_writes}
 use Rattle.path_walk.proofs.NameLaws as names
 use Rattle.path_walk.proofs.NameLaws.{in_directory}
 use Rattle.path_walk.proofs.PutLaws.{puts_done}

@@ -1,5 +1,5 @@
 -- A walk that comes to a node that is no directory has come by an entry; what the node's row has then.
-use Rattle.std.proofs.Common.{◌≡◌, ◌≢◌, ℕ, zero, suc, ◌≤◌, ◌==◌, Bool, true, false, cond, List, [], ◌∷◌, ◌++◌, refl, sym, ap, subst, ◌∙◌}
+use Rattle.std.proofs.Common.{◌≡◌, ◌≢◌, ℕ, zero, suc, ◌≤◌, Bool, true, false, cond, List, [], ◌∷◌, ◌++◌, refl, sym, ap, subst, ◌∙◌}
 use Rattle.std.specs.Prelude.{Option, Some, None, Result, Ok, Err, if◌then◌else◌}
 use Rattle.std.specs.FinMap.{get}
 use Rattle.conflict_sets.specs.declared.sets.ReadSet.{ReadSet}
@@ -28,9 +28,8 @@ use Rattle.tree_model.specs.declared.walk.Walked.TheVariants.{At, AtParent, Stop
 use Rattle.tree_model.specs.Tree.{Tree}
 use Rattle.tree_model.specs.Walk.{Trip, Behind, Inode, Entry, stay, visiting, ends_at, at_file, is_last_of_parent, is_last_unfollowed, on_target, at_link, at_part, at_node, at_entry, down, walk, if_dir, from_base}
 use Rattle.tree_model.proofs.MapLaws.{not_some, some_injective}
-use Rattle.txn_task.specs.Agreeing.{Agrees}
 use Rattle.path_walk.specs.Stages.{trip_at}
-use Rattle.path_walk.specs.Walks.{HasEnd, trip_of}
+use Rattle.path_walk.specs.Walks.{HasEnd}
 use Rattle.path_walk.specs.declared.stage.Stage.{Stage}
 use Rattle.path_walk.specs.declared.stage.Stage.TheVariants as stages
 use Rattle.path_walk.proofs.UnlinkLaws.{counted_links}

@@ -1,6 +1,6 @@
 -- How a call that adds an entry or takes one away begins.
-use Rattle.std.proofs.Common.{◌≡◌, ℕ, refl, sym, ap, ◌∙◌}
-use Rattle.std.specs.Prelude.{Result, Ok, Err, None}
+use Rattle.std.proofs.Common.{◌≡◌, ℕ, refl, ap, ◌∙◌}
+use Rattle.std.specs.Prelude.{Result, Ok, Err}
 use Rattle.fs_base.specs.Config.{Settings}
 use Rattle.fs_base.specs.Paths.{path_of}
 use Rattle.fs_base.specs.declared.call.Call.{Call}

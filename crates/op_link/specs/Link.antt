@@ -3,7 +3,6 @@ use Rattle.std.specs.Prelude.{ℕ, IsTrue, List}
 use Rattle.byte_fields.specs.Fields.{time}
 use Rattle.fs_base.specs.declared.call.Call.{Call}
 use Rattle.fs_base.specs.declared.call.Call.TheVariants as calls
-use Rattle.fs_base.specs.declared.call.Place.{Place}
 use Rattle.tree_model.specs.declared.walk.Walked.{Walked}
 use Rattle.tree_model.specs.Effects.{Effect}
 use Rattle.tree_model.specs.Linking.{link_at, unlink_at, rmdir_at}

@@ -1,5 +1,5 @@
 -- What is put for an entry that moves, on top of what was put before; the last put stands first.
-use Rattle.std.specs.Prelude.{◌≡◌, ℕ, ◌==◌, List, [], ◌∷◌, Option, Some, None, if◌then◌else◌}
+use Rattle.std.specs.Prelude.{◌≡◌, ◌==◌, List, [], ◌∷◌, Option, Some, None, if◌then◌else◌}
 use Rattle.inode_record.specs.declared.inode.InodeRow.{InodeRow}
 use Rattle.key_schema.specs.declared.key.Key.{Key}
 use Rattle.key_schema.specs.declared.key.Key.TheVariants as keys

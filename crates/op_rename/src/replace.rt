@@ -157,12 +157,7 @@ fn put_carried(
 }
 
 /// Takes the directory that is replaced away, where there is one.
-fn clear(
-    alloc: Global,
-    txn: &mut Txn,
-    spots: &Spots,
-    taken: Option<DentRow>,
-) -> Result<(), Memory>
+fn clear(alloc: Global, txn: &mut Txn, spots: &Spots, taken: Option<DentRow>) -> Result<(), Memory>
     requires writes { txn.old.writes ≡ [] }
     ensures puts { OnOk result (txn.new ≡ record txn.old { writes = put_writes (cleared_puts spots.now taken) }) }
     ensures range { IsInRange taken }
@@ -204,12 +199,7 @@ fn move_leaf(
 }
 
 /// To a free name.
-fn put_free(
-    alloc: Global,
-    txn: &mut Txn,
-    spots: &Spots,
-    entry: DentRow,
-) -> Result<OpStep, Memory>
+fn put_free(alloc: Global, txn: &mut Txn, spots: &Spots, entry: DentRow) -> Result<OpStep, Memory>
     requires writes { txn.old.writes ≡ [] }
     requires known { AreKnown txn.old.reads spots.now entry None }
     requires no_dir { entry.kind ≢ kinds.Dir }

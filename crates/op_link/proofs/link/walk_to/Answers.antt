@@ -1,4 +1,3 @@
-use Rattle.std.proofs.Common.{refl}
 use Rattle.key_schema.specs.declared.key.Key.TheVariants as keys
 use Rattle.path_walk.specs.Footprint.{name_at, way_to}
 use Rattle.path_walk.specs.Stages.{trip_at}
