@@ -1,6 +1,6 @@
 -- The steps of the way up over rows that were read.
-use Rattle.std.proofs.Common.{◌≡◌, ◌≢◌, ◌⊎◌, ℕ, ◌+◌, ◌-◌, ◌<◌, ◌≤◌, List, [], ◌∷◌, ◌++◌, map, length, refl, sym, ap, subst, ◌∙◌, inl, inr, arith, true, false, eqb, eq-eqb, eqb-true, length-append}
-use Rattle.std.specs.Prelude.{Option, Some, None}
+use Rattle.std.proofs.Common.{◌≡◌, ◌≢◌, ◌⊎◌, ℕ, ◌+◌, List, [], ◌∷◌, ◌++◌, map, length, refl, sym, subst, ◌∙◌, inl, inr, arith, true, false, eqb, eq-eqb, eqb-true, length-append}
+use Rattle.std.specs.Prelude.{Some, None}
 use Rattle.conflict_sets.specs.declared.sets.ReadSet.{ReadSet}
 use Rattle.fs_base.specs.Config.{Settings}
 use Rattle.fs_base.specs.declared.kind.Kind.TheVariants as kinds
@@ -8,13 +8,10 @@ use Rattle.inode_record.specs.declared.inode.InodePart.{InodePart}
 use Rattle.inode_record.specs.declared.inode.InodePart.TheVariants as parts
 use Rattle.key_schema.specs.declared.key.Key.{Key}
 use Rattle.key_schema.specs.declared.key.Key.TheVariants as keys
-use Rattle.row_tree.specs.Steps.{IsPathAround}
-use Rattle.row_tree.specs.TreeOf.{tree_of}
 use Rattle.row_tree.specs.TypedRows.{TypedRows, kind_of, parent_at, parent_of}
 use Rattle.row_tree.specs.WellFormed.{HasKind, IsWellFormed}
 use Rattle.row_tree.proofs.Adding.{parent_at_row}
 use Rattle.row_tree.proofs.Ancestors.{below_from_on}
-use Rattle.tree_model.specs.Below.{IsBelow}
 use Rattle.txn_task.specs.Agreeing.{Agrees}
 use Rattle.txn_task.specs.Wanted.{IsKeyRead, IsUnread}
 use Rattle.txn_task.specs.declared.messages.Ask.TheVariants as asks
@@ -24,7 +21,7 @@ use Rattle.path_walk.specs.Directories.{IsDirRead}
 use Rattle.path_walk.specs.Owed.{HasRead}
 use Rattle.path_walk.proofs.AreaLaws.{next_behind, read_both}
 use Rattle.path_walk.proofs.ClimbLaws.{IsClimb, areas_at_end, areas_on, climb_clear, climb_few, climb_found, climb_on, inode_area, parent_is_dir}
-use Rattle.op_rename.specs.Climb.{IsClimbStep, LiesBelow, LiesBeside}
+use Rattle.op_rename.specs.Climb.{IsClimbStep}
 use Rattle.op_rename.specs.declared.climb.Climb.TheVariants as climbs
 
 -- ---- whether two ids are one
@@ -74,11 +71,14 @@ module _ (reads : ReadSet) (source dir : ℕ) where
         subst (AreRead reads) (sym (areas_at_end C S good source dir here c.0 c.2 c.4 ends)) (read_both reads (map inode_area c.0) [] c.3 tt)
 
     pub found : here ≡ source → IsClimbStep climbs.Found reads source dir
-    found is C = (all_read (inl is) C, λ S good agrees.
-        let c = so_far C S good agrees in
-        let up = good.leads here c.4 in
-        let on = climb_found S source dir c.0 here up.0 c.2 is up.1 in
-        below_from_on C S good source dir on.0 on.1 on.2)
+    found is C = (
+      all_read (inl is) C,
+      λ S good agrees.
+          let c = so_far C S good agrees in
+          let up = good.leads here c.4 in
+          let on = climb_found S source dir c.0 here up.0 c.2 is up.1 in
+          below_from_on C S good source dir on.0 on.1 on.2,
+    )
 
     pub clear : here ≢ source → here ≡ 0 → IsClimbStep climbs.Clear reads source dir
     clear nx root C = (all_read (inr root) C, λ S good agrees. let c = so_far C S good agrees in climb_clear S source dir c.0 here c.2 nx root)
@@ -98,8 +98,7 @@ module _ (reads : ReadSet) (source dir : ℕ) where
       goes_on less is C S good agrees =
           let c = so_far C S good agrees in
           let long : length (c.0 ++ here ∷ []) ≡ length c.0 + 1 = length-append c.0 (here ∷ []) in
-          let was : length c.0 + left ≡ length reads.keys = c.1 in
-          (
+          let was : length c.0 + left ≡ length reads.keys = c.1 in (
             c.0 ++ here ∷ [],
             omega arith,
             climb_on S source dir c.0 here parent c.2 nx nz (up S agrees),

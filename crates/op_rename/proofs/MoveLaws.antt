@@ -19,7 +19,7 @@ use Rattle.key_schema.specs.declared.key.Key.{Key}
 use Rattle.key_schema.specs.declared.key.Key.TheVariants as keys
 use Rattle.row_records.proofs.InRange.{done_fits}
 use Rattle.row_records.specs.declared.rows.DentRow.{DentRow}
-use Rattle.row_tree.specs.Steps.{IsPathAround, MayMove, under, with_move, without_node}
+use Rattle.row_tree.specs.Steps.{IsPathAround, MayMove, with_move}
 use Rattle.row_tree.specs.TreeOf.{tree_of, node_part}
 use Rattle.row_tree.specs.TypedRows.{TypedRows, kind_of, parent_of}
 use Rattle.row_tree.specs.Values.{Value}
@@ -32,7 +32,6 @@ use Rattle.row_tree.proofs.Renaming.{rename_empty, rename_free, rename_into_free
 use Rattle.row_tree.proofs.Telling.{node_is}
 use Rattle.tree_model.specs.declared.node.Node.{Node}
 use Rattle.tree_model.specs.declared.walk.Walked.TheVariants.{AtParent}
-use Rattle.tree_model.specs.Below.{IsBelow}
 use Rattle.tree_model.specs.Effects.{Effect, Makes, at_length, refuses}
 use Rattle.tree_model.specs.Linking.{is_empty_dir}
 use Rattle.tree_model.specs.Moving.{is_below, rename_at}
@@ -48,9 +47,9 @@ use Rattle.txn_task.specs.declared.messages.OpStep.TheVariants as steps
 use Rattle.path_walk.specs.Areas.{Area, AreRead, FirstRow, IsNextOf, OneKey}
 use Rattle.path_walk.specs.Climbing.{climbed}
 use Rattle.path_walk.specs.Directories.{IsRowRead}
-use Rattle.path_walk.specs.Footprint.{beside_part, dir_moved, in_dir, in_part, kind_moved, moved_at, other_moved, unless_dir}
+use Rattle.path_walk.specs.Footprint.{beside_part, dir_moved, in_dir, kind_moved, moved_at, other_moved, unless_dir}
 use Rattle.path_walk.specs.Owed.{HasDone, HasRead, KeepsAreas}
-use Rattle.path_walk.specs.Puts.{ArePuts, MakesPuts, put_writes, with_puts}
+use Rattle.path_walk.specs.Puts.{ArePuts, put_writes, with_puts}
 use Rattle.path_walk.specs.RowPuts.{unlinked_puts}
 use Rattle.path_walk.proofs.AreaLaws.{no_areas, read_both}
 use Rattle.path_walk.proofs.NameLaws.{in_directory}
@@ -308,7 +307,7 @@ module _ (spots : Spots) (stamp : ℕ) (e : DentRow) (taken : Option DentRow) (t
       after done_fits empty
       (λ S good agrees.
       let one = carries spots stamp e t.reads goes C S good agrees row (is.there S agrees) ((known.entry_read).there S agrees)
-          (row_parent C t.reads spots e known.entry_read from_low from_named low named small row is goes.is_dir S good agrees) taken known other cleared in
+      (row_parent C t.reads spots e known.entry_read from_low from_named low named small row is goes.is_dir S good agrees) taken known other cleared in
       (one.0, ap (at_length 0) one.1))
 
 -- ---- a file or link
@@ -346,7 +345,7 @@ module _ (spots : Spots) (stamp : ℕ) (e : DentRow) (no_dir : e.kind ≢ kinds.
         (λ S good agrees.
         let entry = (known.entry_read).there S agrees in
         let one = leaf_made C S good entry [] (node C S good entry []).1
-            (rename_free C S good stamp (spots.from.dir, spots.from.name) (spots.to.dir, spots.to.name) e entry (dir_at spots stamp e None t.reads known tt S agrees) (λ k. absurd (no_dir k)) ((known.taken_read).there S agrees)) in
+        (rename_free C S good stamp (spots.from.dir, spots.from.name) (spots.to.dir, spots.to.name) e entry (dir_at spots stamp e None t.reads known tt S agrees) (λ k. absurd (no_dir k)) ((known.taken_read).there S agrees)) in
         (one.0, ap (at_length 0) one.1))
 
   -- ---- over another one
@@ -421,6 +420,6 @@ module _ (spots : Spots) (stamp : ℕ) (e : DentRow) (no_dir : e.kind ≢ kinds.
               let taken = (known.taken_read).there S agrees in
               let left = unlinked_made stamp spots.to.dir spots.to.name old row C leaf S good taken (is.there S agrees) in
               let one = leaf_made C S good entry gone (may C S good agrees).there
-                  (rename_unlinked C S good stamp (spots.from.dir, spots.from.name) (spots.to.dir, spots.to.name) e entry (dir_at spots stamp e (Some old) t.reads known other S agrees) (λ k. absurd (no_dir k))
-                  old taken other no_dir leaf (with_puts S gone) left.0 left.1 (may C S good agrees)) in
+              (rename_unlinked C S good stamp (spots.from.dir, spots.from.name) (spots.to.dir, spots.to.name) e entry (dir_at spots stamp e (Some old) t.reads known other S agrees) (λ k. absurd (no_dir k))
+              old taken other no_dir leaf (with_puts S gone) left.0 left.1 (may C S good agrees)) in
               (one.0, ap (at_length 0) one.1))

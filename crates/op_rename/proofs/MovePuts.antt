@@ -1,5 +1,5 @@
 -- What is put for an entry that moves: the puts one after another, that each changes its row, and the rows that they make.
-use Rattle.std.proofs.Common.{◌≡◌, ◌≢◌, ℕ, ◌<◌, ◌^◌, ◌==◌, Bool, true, false, cond, List, [], ◌∷◌, refl, sym, ap, subst, ◌∙◌, eq-eqb, eqb-true, ne_eqb, arith}
+use Rattle.std.proofs.Common.{◌≡◌, ◌≢◌, ℕ, ◌<◌, ◌^◌, ◌==◌, Bool, true, false, cond, List, ◌∷◌, refl, sym, ap, ◌∙◌, eq-eqb, eqb-true, ne_eqb}
 use Rattle.std.specs.Prelude.{IsTrue, Option, Some, None}
 use Rattle.std.specs.Option.{option_map}
 use Rattle.std.specs.FinMap.{get, insert, remove}
@@ -141,8 +141,8 @@ module _ (C : Settings) (reads : ReadSet) (spots : Spots) (e : DentRow) where
         changes = λ S good agrees. (
           (refl, under_fits spots.to.dir row low (row_fits reads e.inode row is.there S agrees)),
           (λ same.
-          let now = ap parent_in (sym (ap (option_map InodeValue) (is.there S agrees)) ∙ same) in
-          other (some_injective spots.from.dir spots.to.dir (sym (row_parent S good agrees) ∙ now ∙ under_parent spots.to.dir row.part (row_dir S good agrees)))),
+              let now = ap parent_in (sym (ap (option_map InodeValue) (is.there S agrees)) ∙ same) in
+              other (some_injective spots.from.dir spots.to.dir (sym (row_parent S good agrees) ∙ now ∙ under_parent spots.to.dir row.part (row_dir S good agrees)))),
         );
       }
 

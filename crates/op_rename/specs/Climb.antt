@@ -21,19 +21,22 @@ use Rattle.op_rename.specs.declared.climb.Climb.TheVariants as climbs
 -- its row is still to be asked for; or all rows that agree with the reads name this parent there, or none
 abbrev pub IsAbove : Above → ReadSet → ℕ → Type 0
 IsAbove (found.Ask key) reads dir = (key ≡ keys.Inode dir) × IsUnread reads (keys.Inode dir)
-IsAbove (found.Dir parent) reads dir = IsKeyRead reads (keys.Inode dir) × ((S : TypedRows) → Agrees S reads → parent_at S dir ≡ Some parent)
-IsAbove found.Nothing reads dir = IsKeyRead reads (keys.Inode dir) × ((S : TypedRows) → Agrees S reads → parent_at S dir ≡ None)
+IsAbove (found.Dir parent) reads dir =
+    IsKeyRead reads (keys.Inode dir) × ((S : TypedRows) → Agrees S reads → parent_at S dir ≡ Some parent)
+IsAbove found.Nothing reads dir =
+    IsKeyRead reads (keys.Inode dir) × ((S : TypedRows) → Agrees S reads → parent_at S dir ≡ None)
 
 -- in all well-formed rows that agree with the reads, the directory is the source or lies below it
 abbrev pub LiesBelow : Settings → ReadSet → ℕ → ℕ → Type 0
-LiesBelow C reads source dir = (S : TypedRows) → IsWellFormed C S → Agrees S reads → IsBelow (tree_of S) source dir
+LiesBelow C reads source dir =
+    (S : TypedRows) → IsWellFormed C S → Agrees S reads → IsBelow (tree_of S) source dir
 
 -- in all of them the parents lead from the directory to the root, and not by the source
 abbrev pub LiesBeside : Settings → ReadSet → ℕ → ℕ → Type 0
 LiesBeside C reads source dir =
     (S : TypedRows) → IsWellFormed C S → Agrees S reads → (path : List ℕ) × IsPathAround S source dir path
 
--- the next inode on the way up; or all that is read on it was, and the directory lies below the source or doesn't
+-- the next inode on the way up; or all that is read on it was, and the directory lies below, or beside
 abbrev pub IsClimbStep : Climb → ReadSet → ℕ → ℕ → Type 0
 IsClimbStep (climbs.Ask key) reads source dir =
     IsUnread reads key × ((C : Settings) → MayAsk C (λ T. climbed T source dir) reads (asks.Get key))

@@ -16,8 +16,8 @@ use Rattle.op_rename.specs.Climb.{LiesBeside}
 use Rattle.op_rename.specs.declared.place.Spots.{Spots}
 
 -- both entries were read, and the directory where the entry is to come
-pub record AreKnown (reads : ReadSet) (spots : Spots) (entry : DentRow) (taken : Option DentRow) : Type 0 where
-  pub entry_read : IsEntryRead reads spots.from.dir spots.from.name entry
+pub record AreKnown (reads : ReadSet) (spots : Spots) (e : DentRow) (taken : Option DentRow) : Type 0 where
+  pub entry_read : IsEntryRead reads spots.from.dir spots.from.name e
   pub dir : IsDirRead reads spots.to.dir
   pub taken_read : IsNameRead reads spots.to.dir spots.to.name taken
 

@@ -2,7 +2,7 @@ ghost use Rattle.std.specs.Prelude.{◌≡◌, ◌≢◌, ℕ, [], true, false, 
 ghost use Rattle.byte_fields.specs.Fields.{time};
 ghost use Rattle.fs_base.specs.declared.kind.Kind.TheVariants as kinds;
 ghost use Rattle.path_walk.specs.Directories.{IsDirRead, IsEntryRead, IsNameRead, IsRowRead};
-ghost use Rattle.path_walk.specs.Puts.{put_writes};
+ghost use Rattle.path_walk.specs.RowPuts.{HasPut};
 ghost use Rattle.op_rename.specs.Ending.{IsMoveStep};
 ghost use Rattle.op_rename.specs.Puts.{cleared_puts};
 ghost use Rattle.op_rename.specs.Replace.{AreKnown, GoesBeside, IsCleared, IsInRange, IsOther, IsSame};
@@ -157,14 +157,9 @@ fn put_carried(
 }
 
 /// Takes the directory that is replaced away, where there is one.
-fn clear(
-    alloc: Global,
-    txn: &mut Txn,
-    spots: &Spots,
-    taken: Option<DentRow>,
-) -> Result<(), Memory>
+fn clear(alloc: Global, txn: &mut Txn, spots: &Spots, taken: Option<DentRow>) -> Result<(), Memory>
     requires writes { txn.old.writes ≡ [] }
-    ensures puts { OnOk result (txn.new ≡ record txn.old { writes = put_writes (cleared_puts spots.now taken) }) }
+    ensures puts { OnOk result (HasPut (cleared_puts spots.now taken) txn.old txn.new) }
     ensures range { IsInRange taken }
 {
     match taken {
@@ -204,12 +199,7 @@ fn move_leaf(
 }
 
 /// To a free name.
-fn put_free(
-    alloc: Global,
-    txn: &mut Txn,
-    spots: &Spots,
-    entry: DentRow,
-) -> Result<OpStep, Memory>
+fn put_free(alloc: Global, txn: &mut Txn, spots: &Spots, entry: DentRow) -> Result<OpStep, Memory>
     requires writes { txn.old.writes ≡ [] }
     requires known { AreKnown txn.old.reads spots.now entry None }
     requires no_dir { entry.kind ≢ kinds.Dir }

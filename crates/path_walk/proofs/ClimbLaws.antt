@@ -13,12 +13,10 @@ use Rattle.conflict_sets.specs.declared.sets.ReadSet.{ReadSet}
 use Rattle.conflict_sets.proofs.KeyOrder.{key_exact, key_total}
 use Rattle.conflict_sets.proofs.RowLemmas.{by_place}
 use Rattle.fs_base.specs.Config.{Settings}
-use Rattle.fs_base.specs.declared.kind.Kind.{Kind}
 use Rattle.fs_base.specs.declared.kind.Kind.TheVariants as kinds
 use Rattle.key_schema.specs.Keys.{spelled_key}
 use Rattle.key_schema.specs.declared.key.Key.TheVariants as keys
 use Rattle.row_records.specs.declared.rows.DentRow.{DentRow}
-use Rattle.row_tree.specs.Spelling.{Spells}
 use Rattle.row_tree.specs.Steps.{IsPathAround}
 use Rattle.row_tree.specs.TreeOf.{tree_of, node_of}
 use Rattle.row_tree.specs.TypedRows.{TypedRows, parent_at}
@@ -34,7 +32,6 @@ use Rattle.tree_model.specs.Maps.{dent_cmp}
 use Rattle.tree_model.specs.Tree.{Tree}
 use Rattle.tree_model.proofs.MapLaws.{both_first, both_second, decide, find_below, len-map_values, names, not_some, some_injective}
 use Rattle.txn_task.specs.Agreeing.{Agrees}
-use Rattle.txn_task.specs.Wanted.{IsKeyRead}
 use Rattle.txn_task.specs.Writes.{read_of}
 use Rattle.path_walk.specs.Areas.{Area, OneKey, AreRead}
 use Rattle.path_walk.specs.Climbing.{above, climb, climbed, from_above, place_of}
@@ -199,8 +196,7 @@ module _ (C : Settings) (S : TypedRows) (good : IsWellFormed C S) (x : ℕ) wher
     areas_on nx nz =
         let few = way.2 in
         let some : 1 ≤ length way.0 = goes way.0 way.1 in
-        let left : ℕ = size - length visited - 1 in
-        (
+        let left : ℕ = size - length visited - 1 in (
           from_above (above (tree_of S) here) (climb left (tree_of S) x),
           climb_behind visited size (suc left) dir here c (omega arith)
               ∙ ap (λ (l : List Area). map inode_area visited ++ l) (climb_step left (tree_of S) x here nx nz),

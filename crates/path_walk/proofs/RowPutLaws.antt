@@ -1,5 +1,5 @@
 -- What is put for a further entry, or one less: the puts one after another, and that each changes its row.
-use Rattle.std.proofs.Common.{◌≡◌, ◌≢◌, ℕ, ◌<◌, ◌≤◌, ◌^◌, true, List, [], ◌∷◌, refl, sym, ap, ◌∙◌, arith}
+use Rattle.std.proofs.Common.{◌≡◌, ◌≢◌, ℕ, ◌<◌, ◌≤◌, ◌^◌, List, [], ◌∷◌, refl, sym, ap, ◌∙◌, arith}
 use Rattle.std.specs.Prelude.{IsTrue, Option, Some, None}
 use Rattle.std.specs.Option.{option_map}
 use Rattle.std.specs.FinMap.{get}
@@ -22,13 +22,13 @@ use Rattle.row_records.specs.declared.rows.GcRow.{GcRow}
 use Rattle.row_records.specs.declared.rows.GcRow.TheVariants.{Waiting}
 use Rattle.row_records.proofs.InRange.{entry_fits}
 use Rattle.row_tree.specs.Steps.{recounted}
-use Rattle.row_tree.specs.TypedRows.{TypedRows, kind_of, lookup}
+use Rattle.row_tree.specs.TypedRows.{TypedRows, kind_of}
 use Rattle.row_tree.specs.Values.{Value, DentValue, GcValue, InodeValue, spelled_value}
 use Rattle.row_tree.specs.WellFormed.{IsWellFormed}
 use Rattle.txn_task.specs.Agreeing.{Agrees}
 use Rattle.txn_task.specs.Transactions.{Transaction}
 use Rattle.txn_task.specs.Writes.{set_write}
-use Rattle.path_walk.specs.Puts.{ArePuts, IsPut, put_writes}
+use Rattle.path_walk.specs.Puts.{IsPut, put_writes}
 use Rattle.path_walk.proofs.PutLaws.{absent_changes}
 use Rattle.path_walk.specs.RowPuts.{gone_puts, join_puts, left_puts, waiting_puts}
 

@@ -1,5 +1,5 @@
 -- What is put for a further entry, or one less; the last put stands first.
-use Rattle.std.specs.Prelude.{ℕ, ◌-◌, nat_le, List, [], ◌∷◌, Option, Some, None, if◌then◌else◌}
+use Rattle.std.specs.Prelude.{◌≡◌, ℕ, ◌-◌, nat_le, List, [], ◌∷◌, Option, Some, None, if◌then◌else◌}
 use Rattle.fs_base.specs.declared.kind.Kind.{Kind}
 use Rattle.fs_base.specs.declared.kind.Kind.TheVariants as kinds
 use Rattle.inode_record.specs.declared.inode.InodeRow.{InodeRow}
@@ -9,11 +9,20 @@ use Rattle.row_records.specs.declared.rows.DentRow.{DentRow}
 use Rattle.row_records.specs.declared.rows.GcRow.TheVariants.{Waiting}
 use Rattle.row_tree.specs.Steps.{recounted}
 use Rattle.row_tree.specs.TypedRows.{kind_of}
+use Rattle.txn_task.specs.Transactions.{Transaction}
+use Rattle.path_walk.specs.Puts.{put_writes}
 use Rattle.row_tree.specs.Values.{Value, DentValue, GcValue, InodeValue}
+
+-- these puts and no others were written
+abbrev pub HasPut : List (Key × Option Value) → Transaction → Transaction → Type 0
+HasPut puts old new = new ≡ record old { writes = put_writes puts }
 
 -- the row of the node, and the entry
 abbrev pub join_puts : ℕ → List ℕ → ℕ → InodeRow → List (Key × Option Value)
-join_puts dir name id row = (keys.Dent dir name, Some (DentValue (record { inode = id; kind = kind_of row.part }))) ∷ (keys.Inode id, Some (InodeValue row)) ∷ []
+join_puts dir name id row =
+    (keys.Dent dir name, Some (DentValue (record { inode = id; kind = kind_of row.part })))
+    ∷ (keys.Inode id, Some (InodeValue row))
+    ∷ []
 
 -- the entry taken away, and the row of the node
 abbrev pub left_puts : ℕ → List ℕ → ℕ → InodeRow → List (Key × Option Value)

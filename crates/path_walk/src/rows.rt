@@ -1,8 +1,7 @@
 ghost use Rattle.std.specs.Prelude.{◌≡◌, ◌<◌, [], IsTrue, OnOk};
 ghost use Rattle.fs_base.specs.Names.{is_name};
-ghost use Rattle.path_walk.specs.Puts.{put_writes};
 ghost use Rattle.row_tree.specs.Steps as rows;
-ghost use Rattle.path_walk.specs.RowPuts.{gone_puts, join_puts, left_puts, unlinked_puts, waiting_puts};
+ghost use Rattle.path_walk.specs.RowPuts.{HasPut, gone_puts, join_puts, left_puts, unlinked_puts, waiting_puts};
 
 use fs_base::limits::INODE_IDS;
 use fs_base::{InodeId, Kind, Memory, Name};
@@ -48,7 +47,7 @@ pub fn put_joined(
     row: &InodeRow,
 ) -> Result<(), Memory>
     requires writes { txn.old.writes ≡ [] }
-    ensures { OnOk result (txn.new ≡ record txn.old { writes = put_writes (join_puts dir name.now id row.now) }) }
+    ensures { OnOk result (HasPut (join_puts dir name.now id row.now) txn.old txn.new) }
 {
     let kind = kind_of(&row.part);
     put_inode(alloc, txn, id, row)?;
@@ -66,7 +65,7 @@ pub fn put_left(
     row: &InodeRow,
 ) -> Result<(), Memory>
     requires writes { txn.old.writes ≡ [] }
-    ensures { OnOk result (txn.new ≡ record txn.old { writes = put_writes (left_puts dir name.now id row.now) }) }
+    ensures { OnOk result (HasPut (left_puts dir name.now id row.now) txn.old txn.new) }
 {
     remove_entry(alloc, txn, dir, name)?;
     put_inode(alloc, txn, id, row)?;
@@ -83,7 +82,7 @@ pub fn put_waiting(
     row: &InodeRow,
 ) -> Result<(), Memory>
     requires writes { txn.old.writes ≡ [] }
-    ensures { OnOk result (txn.new ≡ record txn.old { writes = put_writes (waiting_puts dir name.now id row.now) }) }
+    ensures { OnOk result (HasPut (waiting_puts dir name.now id row.now) txn.old txn.new) }
 {
     put_left(alloc, txn, dir, name, id, row)?;
     put_doomed(alloc, txn, id, GcRow::Waiting)?;
@@ -99,7 +98,7 @@ pub fn put_gone(
     id: InodeId,
 ) -> Result<(), Memory>
     requires writes { txn.old.writes ≡ [] }
-    ensures { OnOk result (txn.new ≡ record txn.old { writes = put_writes (gone_puts dir name.now id) }) }
+    ensures { OnOk result (HasPut (gone_puts dir name.now id) txn.old txn.new) }
 {
     remove_entry(alloc, txn, dir, name)?;
     remove_inode(alloc, txn, id)?;
@@ -117,7 +116,7 @@ pub fn put_unlinked(
     row: InodeRow,
 ) -> Result<(), Memory>
     requires writes { txn.old.writes ≡ [] }
-    ensures { OnOk result (txn.new ≡ record txn.old { writes = put_writes (unlinked_puts stamp dir name.now entry row) }) }
+    ensures { OnOk result (HasPut (unlinked_puts stamp dir name.now entry row) txn.old txn.new) }
 {
     if row.links >= 2 {
         let links = row.links - 1;

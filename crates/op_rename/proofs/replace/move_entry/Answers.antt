@@ -1,4 +1,3 @@
-use Rattle.std.proofs.Common.{refl}
 use Rattle.op_rename.proofs.MoveLaws.{same_done}
 use Rattle.op_rename.proofs.replace.move_entry.Goals as goal
 

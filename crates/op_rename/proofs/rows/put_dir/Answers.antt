@@ -1,4 +1,3 @@
-use Rattle.std.proofs.Common.{sym, ◌∙◌}
 use Rattle.op_rename.proofs.ClimbSteps.{are_two, is_one}
 use Rattle.op_rename.proofs.MovePuts.{puts_across, puts_inside}
 use Rattle.op_rename.proofs.rows.put_dir.Goals as goal
