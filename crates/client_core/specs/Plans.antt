@@ -39,6 +39,7 @@ IsOp (ops.Setattr stamp place changes) = (stamp < 2 ^ 53) × IsPlace place × Is
 IsOp (ops.Link stamp from to) = (stamp < 2 ^ 53) × IsPlace from × IsPlace to
 IsOp (ops.Unlink stamp place) = (stamp < 2 ^ 53) × IsPlace place
 IsOp (ops.Rmdir stamp place) = (stamp < 2 ^ 53) × IsPlace place
+IsOp (ops.Rename stamp from to) = (stamp < 2 ^ 53) × IsPlace from × IsPlace to
 IsOp (ops.Lookup stamp place) = (stamp < 2 ^ 53) × IsPlace place
 IsOp (ops.Stat stamp place) = (stamp < 2 ^ 53) × IsPlace place
 IsOp (ops.List stamp place) = (stamp < 2 ^ 53) × IsPlace place

@@ -26,6 +26,7 @@ pub enum OpKind {
     Link,
     Unlink,
     Rmdir,
+    Rename,
     Lookup,
     Stat,
     List,
@@ -64,6 +65,7 @@ fn kind_of(name: &str) -> Result<OpKind, Broken>
         "link" => Ok(OpKind::Link),
         "unlink" => Ok(OpKind::Unlink),
         "rmdir" => Ok(OpKind::Rmdir),
+        "rename" => Ok(OpKind::Rename),
         "lookup" => Ok(OpKind::Lookup),
         "stat" => Ok(OpKind::Stat),
         "list" => Ok(OpKind::List),
@@ -82,7 +84,7 @@ fn keys_of(kind: OpKind) -> &'static [&'static str]
         OpKind::Setattr => &[
             "op", "time", "path", "dir", "mode", "uid", "gid", "atime", "mtime",
         ],
-        OpKind::Link => &["op", "time", "path", "dir", "path2", "dir2"],
+        OpKind::Link | OpKind::Rename => &["op", "time", "path", "dir", "path2", "dir2"],
         OpKind::Unlink | OpKind::Rmdir => &["op", "time", "path", "dir"],
         OpKind::Lookup | OpKind::Stat | OpKind::List | OpKind::Readlink => &[
             "op", "time", "path", "dir",
@@ -193,6 +195,7 @@ fn op_with(
         OpKind::Link => link_with(alloc, stamp, place, value),
         OpKind::Unlink => Ok(Op::Unlink { stamp, place }),
         OpKind::Rmdir => Ok(Op::Rmdir { stamp, place }),
+        OpKind::Rename => rename_with(alloc, stamp, place, value),
         OpKind::Lookup => Ok(Op::Lookup { stamp, place }),
         OpKind::Stat => Ok(Op::Stat { stamp, place }),
         OpKind::List => Ok(Op::List { stamp, place }),
@@ -266,4 +269,14 @@ fn link_with(alloc: Global, stamp: u64, from: Place, value: &Value) -> Result<Op
 {
     let to = place_at(alloc, value, "dir2", "path2")?;
     Ok(Op::Link { stamp, from, to })
+}
+
+fn rename_with(alloc: Global, stamp: u64, from: Place, value: &Value) -> Result<Op, ScenarioError>
+    requires stamp { stamp < 2 ^ 53 }
+    requires place { IsPlace from }
+    ensures gives { Gives broken_of (λ op. op) result (op_with OpKind.Rename stamp from (view value.now)) }
+    ensures valid { IfOk result (λ op. IsOp op) }
+{
+    let to = place_at(alloc, value, "dir2", "path2")?;
+    Ok(Op::Rename { stamp, from, to })
 }
