@@ -5,7 +5,7 @@ ghost use Rattle.fs_base.specs.Gives.{Gives};
 ghost use Rattle.serde_json.specs.View.{view};
 ghost use Rattle.scenario.specs.Broken.{broken_of, not_built};
 ghost use Rattle.scenario.specs.Numbers.{number_or};
-ghost use Rattle.scenario.specs.Ops.{both, changes_of, keys_of, kind_of, layout_of, making_of, op_of, op_with, place_at, short_text};
+ghost use Rattle.scenario.specs.Ops.{both, changes_of, keys_of, kind_of, layout_of, making_of, op_of, op_with, place_at, second_place, short_text};
 ghost use Rattle.client_core.specs.Plans.{IsChanges, IsLayout, IsOp, IsPlace};
 
 use crate::broken::{Broken, ScenarioError, need, not_built};
@@ -113,6 +113,14 @@ fn place_at(alloc: Global, value: &Value, dir: &str, path: &str) -> Result<Place
         base: InodeId::new(base),
         text,
     })
+}
+
+/// Where an operation of two places leads.
+fn second_place(alloc: Global, value: &Value) -> Result<Place, ScenarioError>
+    ensures gives { Gives broken_of (λ place. place) result (second_place (view value.now)) }
+    ensures valid { IfOk result (λ place. IsPlace place) }
+{
+    place_at(alloc, value, "dir2", "path2")
 }
 
 fn both(chunk: Option<u32>, stripe: Option<u16>) -> Result<Option<DefaultLayout>, Broken>
@@ -267,7 +275,7 @@ fn link_with(alloc: Global, stamp: u64, from: Place, value: &Value) -> Result<Op
     ensures gives { Gives broken_of (λ op. op) result (op_with OpKind.Link stamp from (view value.now)) }
     ensures valid { IfOk result (λ op. IsOp op) }
 {
-    let to = place_at(alloc, value, "dir2", "path2")?;
+    let to = second_place(alloc, value)?;
     Ok(Op::Link { stamp, from, to })
 }
 
@@ -277,6 +285,6 @@ fn rename_with(alloc: Global, stamp: u64, from: Place, value: &Value) -> Result<
     ensures gives { Gives broken_of (λ op. op) result (op_with OpKind.Rename stamp from (view value.now)) }
     ensures valid { IfOk result (λ op. IsOp op) }
 {
-    let to = place_at(alloc, value, "dir2", "path2")?;
+    let to = second_place(alloc, value)?;
     Ok(Op::Rename { stamp, from, to })
 }
