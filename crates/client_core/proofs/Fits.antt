@@ -113,21 +113,28 @@ changes_fits c h =
 
 -- ---- the calls
 
+two_places : (stamp : ℕ) (from to : Place) → (stamp < 2 ^ 53) × IsPlace from × IsPlace to → (are_bytes from.text ≡ true) × (are_bytes to.text ≡ true)
+    → (time.fits stamp && (place.fits from && place.fits to)) ≡ true
+two_places stamp from to h are =
+    and_from (time.fits stamp) (place.fits from && place.fits to) (time_fits stamp h.0)
+    (and_from (place.fits from) (place.fits to) (place_fits from h.1 are.0) (place_fits to h.2 are.1))
+
 pub op_fits : (step : Op) → IsOp step → HasBytes step → IsTrue (is_call (stamp_of step, call_of step))
 unfolding stamped_call call number_1
 op_fits (ops.Mkdir stamp p m l) h are = and_from (time.fits stamp) (made.fits (p, (m, l))) (time_fits stamp h.0) (made_fits p m l h.1 are h.2 h.3)
 op_fits (ops.Create stamp p m l) h are = and_from (time.fits stamp) (made.fits (p, (m, l))) (time_fits stamp h.0) (made_fits p m l h.1 are h.2 h.3)
 op_fits (ops.Symlink stamp p target) h are = and_from (time.fits stamp) (place.fits p && text.fits target) (time_fits stamp h.0) (and_from (place.fits p) (text.fits target) (place_fits p h.1 are.0) (text_fits target h.2 are.1))
 op_fits (ops.Setattr stamp p c) h are = and_from (time.fits stamp) (place.fits p && changes.fits c) (time_fits stamp h.0) (and_from (place.fits p) (changes.fits c) (place_fits p h.1 are) (changes_fits c h.2))
-op_fits (ops.Link stamp from to) h are = and_from (time.fits stamp) (place.fits from && place.fits to) (time_fits stamp h.0) (and_from (place.fits from) (place.fits to) (place_fits from h.1 are.0) (place_fits to h.2 are.1))
+op_fits (ops.Link stamp from to) h are = two_places stamp from to h are
 op_fits (ops.Unlink stamp p) h are = and_from (time.fits stamp) (place.fits p) (time_fits stamp h.0) (place_fits p h.1 are)
 op_fits (ops.Rmdir stamp p) h are = and_from (time.fits stamp) (place.fits p) (time_fits stamp h.0) (place_fits p h.1 are)
+op_fits (ops.Rename stamp from to) h are = two_places stamp from to h are
 op_fits (ops.Lookup stamp p) h are = and_from (time.fits stamp) (place.fits p) (time_fits stamp h.0) (place_fits p h.1 are)
 op_fits (ops.Stat stamp p) h are = and_from (time.fits stamp) (place.fits p) (time_fits stamp h.0) (place_fits p h.1 are)
 op_fits (ops.List stamp p) h are = and_from (time.fits stamp) (place.fits p) (time_fits stamp h.0) (place_fits p h.1 are)
 op_fits (ops.Readlink stamp p) h are = and_from (time.fits stamp) (place.fits p) (time_fits stamp h.0) (place_fits p h.1 are)
 
-built : (step : Op) → IsTrue (is_built (call_of step))
+pub built : (step : Op) → IsTrue (is_built (call_of step))
 built (ops.Mkdir stamp p m l) = refl
 built (ops.Create stamp p m l) = refl
 built (ops.Symlink stamp p target) = refl
@@ -135,6 +142,7 @@ built (ops.Setattr stamp p c) = refl
 built (ops.Link stamp from to) = refl
 built (ops.Unlink stamp p) = refl
 built (ops.Rmdir stamp p) = refl
+built (ops.Rename stamp from to) = refl
 built (ops.Lookup stamp p) = refl
 built (ops.Stat stamp p) = refl
 built (ops.List stamp p) = refl

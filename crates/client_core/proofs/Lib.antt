@@ -1,4 +1,4 @@
 pub mod Ending
-mod Fits
+pub mod Fits
 pub mod Scripts
 pub mod Single

@@ -40,6 +40,7 @@ IsOp (ops.Setattr stamp place changes) = (stamp < TIMES) × IsPlace place × IsC
 IsOp (ops.Link stamp from to) = (stamp < TIMES) × IsPlace from × IsPlace to
 IsOp (ops.Unlink stamp place) = (stamp < TIMES) × IsPlace place
 IsOp (ops.Rmdir stamp place) = (stamp < TIMES) × IsPlace place
+IsOp (ops.Rename stamp from to) = (stamp < TIMES) × IsPlace from × IsPlace to
 IsOp (ops.Lookup stamp place) = (stamp < TIMES) × IsPlace place
 IsOp (ops.Stat stamp place) = (stamp < TIMES) × IsPlace place
 IsOp (ops.List stamp place) = (stamp < TIMES) × IsPlace place

@@ -47,6 +47,12 @@ pub enum Op {
         stamp: u64,
         place: Place,
     },
+    /// Moves an entry to another place, and takes away what it replaces there.
+    Rename {
+        stamp: u64,
+        from: Place,
+        to: Place,
+    },
     /// What stands at a place.
     Lookup {
         stamp: u64,

@@ -31,6 +31,10 @@ fn texts_are_bytes(step: &Op)
             is_of_bytes(from.text.as_slice());
             is_of_bytes(to.text.as_slice());
         }
+        Op::Rename { from, to, .. } => {
+            is_of_bytes(from.text.as_slice());
+            is_of_bytes(to.text.as_slice());
+        }
         Op::Mkdir { place, .. } => is_of_bytes(place.text.as_slice()),
         Op::Create { place, .. } => is_of_bytes(place.text.as_slice()),
         Op::Setattr { place, .. } => is_of_bytes(place.text.as_slice()),
@@ -54,6 +58,7 @@ fn stamp_of(step: &Op) -> u64
         Op::Link { stamp, .. } => *stamp,
         Op::Unlink { stamp, .. } => *stamp,
         Op::Rmdir { stamp, .. } => *stamp,
+        Op::Rename { stamp, .. } => *stamp,
         Op::Lookup { stamp, .. } => *stamp,
         Op::Stat { stamp, .. } => *stamp,
         Op::List { stamp, .. } => *stamp,
@@ -99,6 +104,10 @@ fn call_of(alloc: Global, step: &Op) -> Result<Call, Memory>
         }),
         Op::Unlink { place, .. } => Ok(Call::Unlink(place.try_clone(alloc)?)),
         Op::Rmdir { place, .. } => Ok(Call::Rmdir(place.try_clone(alloc)?)),
+        Op::Rename { from, to, .. } => Ok(Call::Rename {
+            from: from.try_clone(alloc)?,
+            to: to.try_clone(alloc)?,
+        }),
         Op::Lookup { place, .. } => Ok(Call::Lookup(place.try_clone(alloc)?)),
         Op::Stat { place, .. } => Ok(Call::Stat(place.try_clone(alloc)?)),
         Op::List { place, .. } => Ok(Call::List(place.try_clone(alloc)?)),

@@ -4,12 +4,14 @@ ghost use Rattle.path_walk.specs.Requests.{IsRequest, is_built};
 ghost use Rattle.op_attr.specs.Attr.{IsAttrCall};
 ghost use Rattle.op_create.specs.Create.{IsCreateCall};
 ghost use Rattle.op_link.specs.Link.{IsLinkCall};
+ghost use Rattle.op_rename.specs.Rename.{IsRenameCall};
 ghost use Rattle.meta_task.specs.Ops.{IsFirst, IsReady, IsOfKind, config_of, effect_of, areas_of};
 
 use fs_base::{Call, Config, Memory, Request};
 use op_attr::AttrTask;
 use op_create::CreateTask;
 use op_link::LinkTask;
+use op_rename::RenameTask;
 use std::alloc::Global;
 use txn_task::{Answer, OpStep, Txn};
 
@@ -22,6 +24,7 @@ pub enum OpTask {
     Create(CreateTask),
     /// link, unlink or rmdir.
     Link(LinkTask),
+    Rename(RenameTask),
 }
 
 /// Which of these tasks does a call.
@@ -30,6 +33,7 @@ enum TaskKind {
     Attr,
     Create,
     Link,
+    Rename,
 }
 
 fn kind_of(call: &Call) -> TaskKind
@@ -43,6 +47,7 @@ fn kind_of(call: &Call) -> TaskKind
         Call::Link { .. } => TaskKind::Link,
         Call::Unlink(_) => TaskKind::Link,
         Call::Rmdir(_) => TaskKind::Link,
+        Call::Rename { .. } => TaskKind::Rename,
         _ => TaskKind::Attr,
     }
 }
@@ -74,6 +79,15 @@ fn link(alloc: Global, request: &Request, config: &Config) -> Result<OpTask, Mem
     Ok(OpTask::Link(task))
 }
 
+fn rename(alloc: Global, request: &Request, config: &Config) -> Result<OpTask, Memory>
+    requires valid { IsRequest config.now request.now }
+    requires call { IsRenameCall request.now.call }
+    ensures { IfOk result (λ op. IsFirst config.now request.now op) }
+{
+    let task = RenameTask::new(alloc, request, config)?;
+    Ok(OpTask::Rename(task))
+}
+
 impl OpTask {
     /// The operation of a request, before its first step.
     pub fn new(alloc: Global, request: &Request, config: &Config) -> Result<OpTask, Memory>
@@ -84,6 +98,7 @@ impl OpTask {
             TaskKind::Attr => attr(alloc, request, config),
             TaskKind::Create => create(alloc, request, config),
             TaskKind::Link => link(alloc, request, config),
+            TaskKind::Rename => rename(alloc, request, config),
         }
     }
 
@@ -105,6 +120,10 @@ impl OpTask {
                 Ok(step)
             }
             OpTask::Link(task) => {
+                let step = task.next(alloc, answer, txn)?;
+                Ok(step)
+            }
+            OpTask::Rename(task) => {
                 let step = task.next(alloc, answer, txn)?;
                 Ok(step)
             }

@@ -16,7 +16,6 @@ use Rattle.fs_base.specs.declared.reply.Reply.TheVariants.{Refused}
 use Rattle.key_schema.specs.declared.key.Key.{Key}
 use Rattle.tree_model.specs.declared.kept.KeptReply.{KeptReply}
 use Rattle.tree_model.specs.Calls.{apply, is_query}
-use Rattle.path_walk.specs.Requests.{is_built}
 use Rattle.tree_model.specs.Effects.{settled_by}
 use Rattle.tree_model.specs.Tree.{Tree, new_tree}
 use Rattle.txn_task.specs.declared.messages.Entry.{Entry}
@@ -47,6 +46,7 @@ use Rattle.meta_top.specs.Top.{IsRunOf}
 use Rattle.meta_top.proofs.Marks.{IsNewIn, entry_mark, kept_after, length_free, told_mark}
 use Rattle.run_record.proofs.Replaying.{follows}
 use Rattle.client_core.proofs.Scripts.{scripts_are}
+use Rattle.client_core.proofs.Fits.{built}
 use Rattle.run_record.proofs.Served.{one_request, same_request, served}
 use Rattle.run_record.proofs.Naming.{AreNamedFrom, naming, journal_short, entry_above, front_above, named_rest, of_commit, of_seen, own_entry, place_next, rises_rest, version_seen}
 
@@ -70,20 +70,7 @@ same_listed a b client fronts receipt text =
     ∙ (ap (λ (ns : List ℕ). record a { client = b.client; fronts = ns }) fronts
     ∙ (ap (λ (r : Receipt). record a { client = b.client; fronts = b.fronts; receipt = r }) receipt ∙ ap (λ (t : List ℕ). record b { text = t }) text))
 
--- ---- an operation's call is built, and its number is new
-
-built : (step : Op) → IsTrue (is_built (call_of step))
-built (ops.Mkdir stamp p m l) = refl
-built (ops.Create stamp p m l) = refl
-built (ops.Symlink stamp p target) = refl
-built (ops.Setattr stamp p c) = refl
-built (ops.Link stamp from to) = refl
-built (ops.Unlink stamp p) = refl
-built (ops.Rmdir stamp p) = refl
-built (ops.Lookup stamp p) = refl
-built (ops.Stat stamp p) = refl
-built (ops.List stamp p) = refl
-built (ops.Readlink stamp p) = refl
+-- ---- the number of an operation is new
 
 -- the tree keeps no number of the client above this one
 abbrev KeepsTo : Tree → ClientId → ℕ → Type 0

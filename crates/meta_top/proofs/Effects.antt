@@ -23,6 +23,7 @@ use Rattle.tree_model.specs.Finding.{if_there, on_node}
 use Rattle.tree_model.specs.Walk.{resolve}
 use Rattle.tree_model.specs.declared.new_node.NewNode.{NewNode}
 use Rattle.tree_model.proofs.LinkingLaws.{link_is, unlink_is, rmdir_is}
+use Rattle.tree_model.proofs.RenameLaws.{rename_is}
 use Rattle.tree_model.specs.declared.walk.WalkEnd.TheVariants.{Follow, Parent}
 use Rattle.fs_base.specs.declared.call.Place.{Place}
 use Rattle.fs_base.specs.declared.code.Code.TheVariants.{NotFound, NotDir}
@@ -95,4 +96,6 @@ update_refuses C T q (calls.Readlink place) built is = cc
 update_refuses C T q (calls.Link from to) built is = link_is Refusing T q.stamp (λ code. refl) (λ dir name id node is. refl) from to
 update_refuses C T q (calls.Unlink place) built is = unlink_is Refusing T q.stamp (λ code. refl) (λ dir name id. refl) (λ dir name id node is. refl) (λ dir name id node is. refl) place
 update_refuses C T q (calls.Rmdir place) built is = rmdir_is Refusing T q.stamp (λ code. refl) (λ dir name id. refl) place
+update_refuses C T q (calls.Rename from to) built is =
+    rename_is Refusing T q.stamp (λ code. refl) refl (λ a b id. refl) (λ a b id dir name old. refl) (λ a b id dir name old node at. refl) (λ a b id dir name old node at. refl) from to
 update_refuses C T q _ built is = unbuilt built

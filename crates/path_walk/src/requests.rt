@@ -8,8 +8,5 @@ use tree_model::is_told;
 pub fn is_built(call: &Call) -> bool
     ensures { result ≡ is_built call.now }
 {
-    match call {
-        Call::Rename { .. } => false,
-        _ => is_told(call),
-    }
+    is_told(call)
 }

@@ -25,7 +25,7 @@ named name (row ∷ rows) = if bytes_eq name row.0 then Some row.1 else named na
 abbrev pub kind_table : List (List ℕ × OpKind)
 kind_table =
     (codes "mkdir", kinds.Mkdir) ∷ (codes "create", kinds.Create) ∷ (codes "symlink", kinds.Symlink) ∷ (codes "setattr", kinds.Setattr)
-    ∷ (codes "link", kinds.Link) ∷ (codes "unlink", kinds.Unlink) ∷ (codes "rmdir", kinds.Rmdir)
+    ∷ (codes "link", kinds.Link) ∷ (codes "unlink", kinds.Unlink) ∷ (codes "rmdir", kinds.Rmdir) ∷ (codes "rename", kinds.Rename)
     ∷ (codes "lookup", kinds.Lookup) ∷ (codes "stat", kinds.Stat) ∷ (codes "list", kinds.List) ∷ (codes "readlink", kinds.Readlink) ∷ []
 
 abbrev pub kind_of : List ℕ → Option OpKind
@@ -40,6 +40,7 @@ own_keys kinds.Setattr = codes "mode" ∷ codes "uid" ∷ codes "gid" ∷ codes 
 own_keys kinds.Link = codes "path2" ∷ codes "dir2" ∷ []
 own_keys kinds.Unlink = []
 own_keys kinds.Rmdir = []
+own_keys kinds.Rename = codes "path2" ∷ codes "dir2" ∷ []
 own_keys kinds.Lookup = []
 own_keys kinds.Stat = []
 own_keys kinds.List = []
@@ -105,6 +106,7 @@ op_with kinds.Setattr stamp place d = changes_of d >>= λ changes. Ok (ops.Setat
 op_with kinds.Link stamp place d = second_place d >>= λ to. Ok (ops.Link stamp place to)
 op_with kinds.Unlink stamp place d = Ok (ops.Unlink stamp place)
 op_with kinds.Rmdir stamp place d = Ok (ops.Rmdir stamp place)
+op_with kinds.Rename stamp place d = second_place d >>= λ to. Ok (ops.Rename stamp place to)
 op_with kinds.Lookup stamp place d = Ok (ops.Lookup stamp place)
 op_with kinds.Stat stamp place d = Ok (ops.Stat stamp place)
 op_with kinds.List stamp place d = Ok (ops.List stamp place)

@@ -5,7 +5,7 @@ ghost use Rattle.fs_base.specs.Gives.{Gives};
 ghost use Rattle.serde_json.specs.View.{view};
 ghost use Rattle.scenario.specs.Broken.{broken_of, not_built};
 ghost use Rattle.scenario.specs.Numbers.{number_or};
-ghost use Rattle.scenario.specs.Ops.{both, changes_of, keys_of, kind_of, layout_of, making_of, op_of, op_with, place_at, short_text};
+ghost use Rattle.scenario.specs.Ops.{both, changes_of, keys_of, kind_of, layout_of, making_of, op_of, op_with, place_at, second_place, short_text};
 ghost use Rattle.client_core.specs.Plans.{IsChanges, IsLayout, IsOp, IsPlace};
 
 use crate::broken::{Broken, ScenarioError, need, not_built};
@@ -27,6 +27,7 @@ pub enum OpKind {
     Link,
     Unlink,
     Rmdir,
+    Rename,
     Lookup,
     Stat,
     List,
@@ -65,6 +66,7 @@ fn kind_of(name: &str) -> Result<OpKind, Broken>
         "link" => Ok(OpKind::Link),
         "unlink" => Ok(OpKind::Unlink),
         "rmdir" => Ok(OpKind::Rmdir),
+        "rename" => Ok(OpKind::Rename),
         "lookup" => Ok(OpKind::Lookup),
         "stat" => Ok(OpKind::Stat),
         "list" => Ok(OpKind::List),
@@ -83,7 +85,7 @@ fn keys_of(kind: OpKind) -> &'static [&'static str]
         OpKind::Setattr => &[
             "op", "time", "path", "dir", "mode", "uid", "gid", "atime", "mtime",
         ],
-        OpKind::Link => &["op", "time", "path", "dir", "path2", "dir2"],
+        OpKind::Link | OpKind::Rename => &["op", "time", "path", "dir", "path2", "dir2"],
         OpKind::Unlink | OpKind::Rmdir => &["op", "time", "path", "dir"],
         OpKind::Lookup | OpKind::Stat | OpKind::List | OpKind::Readlink => &[
             "op", "time", "path", "dir",
@@ -112,6 +114,14 @@ fn place_at(alloc: Global, value: &Value, dir: &str, path: &str) -> Result<Place
         base: InodeId::new(base),
         text,
     })
+}
+
+/// Where an operation of two places leads.
+fn second_place(alloc: Global, value: &Value) -> Result<Place, ScenarioError>
+    ensures gives { Gives broken_of (λ place. place) result (second_place (view value.now)) }
+    ensures valid { IfOk result (λ place. IsPlace place) }
+{
+    place_at(alloc, value, "dir2", "path2")
 }
 
 fn both(chunk: Option<u32>, stripe: Option<u16>) -> Result<Option<DefaultLayout>, Broken>
@@ -194,6 +204,7 @@ fn op_with(
         OpKind::Link => link_with(alloc, stamp, place, value),
         OpKind::Unlink => Ok(Op::Unlink { stamp, place }),
         OpKind::Rmdir => Ok(Op::Rmdir { stamp, place }),
+        OpKind::Rename => rename_with(alloc, stamp, place, value),
         OpKind::Lookup => Ok(Op::Lookup { stamp, place }),
         OpKind::Stat => Ok(Op::Stat { stamp, place }),
         OpKind::List => Ok(Op::List { stamp, place }),
@@ -265,6 +276,16 @@ fn link_with(alloc: Global, stamp: u64, from: Place, value: &Value) -> Result<Op
     ensures gives { Gives broken_of (λ op. op) result (op_with OpKind.Link stamp from (view value.now)) }
     ensures valid { IfOk result (λ op. IsOp op) }
 {
-    let to = place_at(alloc, value, "dir2", "path2")?;
+    let to = second_place(alloc, value)?;
     Ok(Op::Link { stamp, from, to })
+}
+
+fn rename_with(alloc: Global, stamp: u64, from: Place, value: &Value) -> Result<Op, ScenarioError>
+    requires stamp { stamp < 2 ^ 53 }
+    requires place { IsPlace from }
+    ensures gives { Gives broken_of (λ op. op) result (op_with OpKind.Rename stamp from (view value.now)) }
+    ensures valid { IfOk result (λ op. IsOp op) }
+{
+    let to = second_place(alloc, value)?;
+    Ok(Op::Rename { stamp, from, to })
 }

@@ -4,6 +4,7 @@ use Rattle.meta_task.specs.Ops.{config_of, areas_of, effect_of}
 use Rattle.op_attr.specs.Attr as attr
 use Rattle.op_create.specs.Create as create
 use Rattle.op_link.specs.Link as link
+use Rattle.op_rename.specs.Rename as rename
 use Rattle.meta_task.specs.declared.op.OpTask.{OpTask}
 use Rattle.meta_task.proofs.op.OpTask.next.Goals as goal
 
@@ -20,3 +21,8 @@ pub returns-in_ok-step-in-Link-clause-step : goal.returns-in_ok-step-in-Link-cla
 returns-in_ok-step-in-Link-clause-step c =
     subst (λ (o : OpTask). HasStepped (config_of o) (areas_of o) (link.areas_of c.next-in-Link.new.self) (effect_of o) (link.effect_of c.next-in-Link.new.self) c.args.txn.now c.next-in-Link.new.txn c.in_ok-step-in-Link.step) (sym c.in-Link.is)
     c.in_ok-step-in-Link.ensures.step
+
+pub returns-in_ok-step-in-Rename-clause-step : goal.returns-in_ok-step-in-Rename-clause-step
+returns-in_ok-step-in-Rename-clause-step c =
+    subst (λ (o : OpTask). HasStepped (config_of o) (areas_of o) (rename.areas_of c.next-in-Rename.new.self) (effect_of o) (rename.effect_of c.next-in-Rename.new.self) c.args.txn.now c.next-in-Rename.new.txn c.in_ok-step-in-Rename.step) (sym c.in-Rename.is)
+    c.in_ok-step-in-Rename.ensures.step
