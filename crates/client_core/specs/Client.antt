@@ -30,7 +30,17 @@ pub record ClientView : Type 0 where
   pub failed : Bool
 
 abbrev pub new_client : Settings → Script → ClientView
-new_client C script = record { config = C; script = script; op = 0; number = 0; server = script.home; gone = []; request = None; failed = false }
+new_client C script =
+    record {
+      config = C;
+      script = script;
+      op = 0;
+      number = 0;
+      server = script.home;
+      gone = [];
+      request = None;
+      failed = false;
+    }
 
 -- ---- answers
 
@@ -50,13 +60,20 @@ next_request c step = request_of c.script.id c.server (c.number + 1) step
 -- it is sent, if there is such an operation
 abbrev pub send : ClientView → Option Op → ClientView × ClientAsk
 send c None = (c, asks.Ended)
-send c (Some step) = (record c { number = c.number + 1; request = Some (next_request c step) }, asks.Send c.server (next_request c step))
+send c (Some step) = (
+  record c { number = c.number + 1; request = Some (next_request c step) },
+  asks.Send c.server
+      (next_request c step),
+)
 
 -- the request under way was answered, and with it its operation has ended
 abbrev pub end_call : ClientView → ℕ → Outcome → Option Request → ClientView × ClientAsk
 end_call c server outcome None = (c, asks.Ended)
-end_call c server outcome (Some request) =
-    (record c { op = c.op + 1; gone = []; request = None }, asks.CallEnd (receipt_of c.op request server c.gone outcome ∷ []) true)
+end_call c server outcome (Some request) = (
+  record c { op = c.op + 1; gone = []; request = None },
+  asks.CallEnd
+      (receipt_of c.op request server c.gone outcome ∷ []) true,
+)
 
 -- the client behind its next ask, and the ask
 abbrev pub client_step : ClientView → ClientAnswer → ClientView × ClientAsk

@@ -40,9 +40,11 @@ stamp_of (ops.Readlink stamp place) = stamp
 
 -- a client's request of an operation: to a server, by a number
 abbrev pub request_of : ClientId → ℕ → ℕ → Op → Request
-request_of client server number step = record { server = server; client = client; number = number; stamp = stamp_of step; call = call_of step }
+request_of client server number step =
+    record { server = server; client = client; number = number; stamp = stamp_of step; call = call_of step }
 
--- what is kept of a request's call: the request's number, the server that answered, and the stops that took the request away
+-- what is kept of a request's call: the request's number, the server that answered, and the stops that took
+-- the request away
 abbrev pub receipt_of : ℕ → Request → ℕ → List (ℕ × ℕ) → Outcome → Receipt
 receipt_of op request server gone outcome =
     record {

@@ -33,8 +33,10 @@ pub record IsChanges (changes : Changes) : Type 0 where
 
 -- each number and text is in its range
 abbrev pub IsOp : Op → Type 0
-IsOp (ops.Mkdir stamp place mode layout) = (stamp < TIMES) × IsPlace place × (mode < MODES) × IfSome layout IsLayout
-IsOp (ops.Create stamp place mode layout) = (stamp < TIMES) × IsPlace place × (mode < MODES) × IfSome layout IsLayout
+IsOp (ops.Mkdir stamp place mode layout) =
+    (stamp < TIMES) × IsPlace place × (mode < MODES) × IfSome layout IsLayout
+IsOp (ops.Create stamp place mode layout) =
+    (stamp < TIMES) × IsPlace place × (mode < MODES) × IfSome layout IsLayout
 IsOp (ops.Symlink stamp place target) = (stamp < TIMES) × IsPlace place × (length target ≤ TEXT_BYTES)
 IsOp (ops.Setattr stamp place changes) = (stamp < TIMES) × IsPlace place × IsChanges changes
 IsOp (ops.Link stamp from to) = (stamp < TIMES) × IsPlace from × IsPlace to
@@ -61,7 +63,9 @@ HasId script = 1 ≤ script.id.0
 
 -- clients with one id are one
 abbrev pub AreDistinct : List Script → Type 0
-AreDistinct scripts = (j k : ℕ) (a b : Script) → slice_get scripts j ≡ Some a → slice_get scripts k ≡ Some b → a.id ≡ b.id → j ≡ k
+AreDistinct scripts =
+    (j k : ℕ) (a b : Script) → slice_get scripts j ≡ Some a → slice_get scripts k ≡ Some b → a.id ≡ b.id
+    → j ≡ k
 
 abbrev pub ops_in : List Script → ℕ
 ops_in [] = 0

@@ -19,7 +19,8 @@ receipts_in ask = []
 
 -- the client's next step, and the one after it
 abbrev pub answered : ClientView → Outcome → ClientView × ClientAsk
-answered c outcome = client_step (client_step c answers.Next).0 (reply_to (client_step c answers.Next).1 outcome)
+answered c outcome =
+    client_step (client_step c answers.Next).0 (reply_to (client_step c answers.Next).1 outcome)
 
 -- the client once its requests came to these outcomes, one after another
 abbrev pub replayed : ClientView → List Outcome → ClientView
@@ -29,4 +30,5 @@ replayed c (outcome ∷ outcomes) = replayed (answered c outcome).0 outcomes
 -- and the receipts that it told on the way
 abbrev pub receipts_told : ClientView → List Outcome → List Receipt
 receipts_told c [] = []
-receipts_told c (outcome ∷ outcomes) = receipts_in (answered c outcome).1 ++ receipts_told (answered c outcome).0 outcomes
+receipts_told c (outcome ∷ outcomes) =
+    receipts_in (answered c outcome).1 ++ receipts_told (answered c outcome).0 outcomes

@@ -20,7 +20,9 @@ single_receipt script op step outcome = receipt_of op (single_request script op 
 -- nothing is under way, or the request of the next operation is
 abbrev pub IsAt : ClientView → Option Request → Type 0
 IsAt c None = (c.op ≤ length c.script.ops) × (c.number ≡ c.op)
-IsAt c (Some request) = (step : Op) × (slice_get c.script.ops c.op ≡ Some step) × (request ≡ single_request c.script c.op step) × (c.number ≡ c.op + 1)
+IsAt c (Some request) =
+    (step : Op) × (slice_get c.script.ops c.op ≡ Some step) × (request ≡ single_request c.script c.op step)
+    × (c.number ≡ c.op + 1)
 
 -- what holds of a client after each of its steps
 pub record IsClient (c : ClientView) : Type 0 where

@@ -38,9 +38,28 @@ impl Model for ClientState {
 
     ghost Value = { ClientView };
 
-    ghost view = { λ c. record { config = c.config; script = c.script; op = c.op; number = c.number; server = c.server; gone = c.gone; request = c.request; failed = c.failed } };
+    ghost view = { λ c. record {
+      config = c.config;
+      script = c.script;
+      op = c.op;
+      number = c.number;
+      server = c.server;
+      gone = c.gone;
+      request = c.request;
+      failed = c.failed;
+    } };
 
-    ghost invariant = { λ c. IsClient (record { config = c.config; script = c.script; op = c.op; number = c.number; server = c.server; gone = c.gone; request = c.request; failed = c.failed }) };
+    ghost invariant = { λ c. IsClient
+        (record {
+          config = c.config;
+          script = c.script;
+          op = c.op;
+          number = c.number;
+          server = c.server;
+          gone = c.gone;
+          request = c.request;
+          failed = c.failed;
+        }) };
 }
 
 impl ClientState {
@@ -107,7 +126,9 @@ impl ClientState {
     /// The next operation's request, if there is one.
     fn next_request(&self) -> Result<Option<Request>, Memory>
         requires { self.now.request ≡ None }
-        ensures gives { IfOk result (λ request. request ≡ option_map (next_request self.now) (slice_get self.now.script.ops self.now.op)) }
+        ensures gives { IfOk result
+            (λ request. request
+            ≡ option_map (next_request self.now) (slice_get self.now.script.ops self.now.op)) }
         ensures valid { IfOk result (λ request. IfSome request (IsRequest self.now.config)) }
     {
         let Some(step) = self.script.ops.as_slice().get(usize::from(self.op)) else {

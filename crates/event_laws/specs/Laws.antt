@@ -36,38 +36,49 @@ pub record EndsWith (plan : Plan) (event : Event) (earlier : List Event) : Type 
 -- each receipt that a client has kept was told in one of its events
 abbrev pub ReceiptsAreTold : Type 0
 ReceiptsAreTold =
-    (plan : Plan) (first last : WorldView) (events : List Event) → IsOpening plan first → AreEvents first events last
-    → (client : ℕ) (seat : Seat) (listed : Listed) → slice_get last.seats client ≡ Some seat → IsAmong listed seat.receipts → IsToldIn client listed events
+    (plan : Plan) (first last : WorldView) (events : List Event) → IsOpening plan first
+    → AreEvents first events last
+    → (client : ℕ) (seat : Seat) (listed : Listed) → slice_get last.seats client ≡ Some seat
+    → IsAmong listed seat.receipts → IsToldIn client listed events
 
 -- ---- what is new at an event
 
 -- an event makes one ask, the one that waits, and it is answered
 abbrev pub EventsAsk : Type 0
 EventsAsk =
-    (event : Event) (seat : Seat) → HasGone event.before event.after event.client → slice_get event.before.seats event.client ≡ Some seat
+    (event : Event) (seat : Seat) → HasGone event.before event.after event.client
+    → slice_get event.before.seats event.client ≡ Some seat
     → (answer : Answer) × HasAsked event (next_ask seat.work) answer
 
 -- a Begin is answered with the journal's length
 abbrev pub BeginsAreFresh : Type 0
-BeginsAreFresh = (event : Event) (answer : Answer) → HasAsked event asks.Begin answer → answer ≡ answers.Begun (length event.before.objects.store.journal)
+BeginsAreFresh =
+    (event : Event) (answer : Answer) → HasAsked event asks.Begin answer
+    → answer ≡ answers.Begun (length event.before.objects.store.journal)
 
--- the fronts of a receipt are the journal's length just before its call's first event, and nothing of the storage nodes
+-- the fronts of a receipt are the journal's length just before its call's first event, and nothing of the
+-- storage nodes
 abbrev pub FrontsBeginCalls : Type 0
 FrontsBeginCalls =
-    (plan : Plan) (event : Event) (earlier : List Event) (listed : Listed) → EndsWith plan event earlier → HasTold event listed
-    → (front : ℕ) × IsLengthAt (begins_call event.client) (event ∷ earlier) front × (listed.fronts ≡ fronts_of plan.config front)
+    (plan : Plan) (event : Event) (earlier : List Event) (listed : Listed) → EndsWith plan event earlier
+    → HasTold event listed
+    → (front : ℕ) × IsLengthAt (begins_call event.client) (event ∷ earlier) front
+    × (listed.fronts ≡ fronts_of plan.config front)
 
 -- what any client had learned before a call began isn't newer than the reply to the call
 abbrev pub RepliesRise : Type 0
 RepliesRise =
-    (plan : Plan) (event : Event) (earlier : List Event) (listed : Listed) → EndsWith plan event earlier → HasTold event listed
-    → (before : Event) (learned : Listed) → IsAmong before (events_before (begins_call event.client) (event ∷ earlier)) → HasTold before learned
+    (plan : Plan) (event : Event) (earlier : List Event) (listed : Listed) → EndsWith plan event earlier
+    → HasTold event listed
+    → (before : Event) (learned : Listed)
+    → IsAmong before (events_before (begins_call event.client) (event ∷ earlier)) → HasTold before learned
     → seen_by (outcome_of learned.receipt) ≤ listed.receipt.version
 
 -- a reply that no entry has is of the journal's length at its request's last Begin
 abbrev pub UncommittedRepliesAreBegun : Type 0
 UncommittedRepliesAreBegun =
-    (plan : Plan) (event : Event) (earlier : List Event) (listed : Listed) → EndsWith plan event earlier → HasTold event listed → listed.receipt.committed ≡ false
+    (plan : Plan) (event : Event) (earlier : List Event) (listed : Listed) → EndsWith plan event earlier
+    → HasTold event listed → listed.receipt.committed ≡ false
     → IsLengthAt (begins_attempt event.client) (event ∷ earlier) listed.receipt.version
 
 -- ---- conflicts
@@ -75,24 +86,30 @@ UncommittedRepliesAreBegun =
 -- each conflict of a receipt was met in an event of its call
 abbrev pub ConflictsWereMet : Type 0
 ConflictsWereMet =
-    (plan : Plan) (event : Event) (earlier : List Event) (listed : Listed) (pair : ℕ × Key) → EndsWith plan event earlier → HasTold event listed → IsAmong pair listed.receipt.conflicts
+    (plan : Plan) (event : Event) (earlier : List Event) (listed : Listed) (pair : ℕ × Key)
+    → EndsWith plan event earlier → HasTold event listed → IsAmong pair listed.receipt.conflicts
     → IsMetIn event.client pair (event ∷ earlier)
 
 -- a conflict is the first later write of what was read, and later than the attempt's Begin
-pub record IsLater (event : Event) (earlier : List Event) (reads : ReadSet) (version : ℕ) (key : Key) : Type 0 where
-  pub snapshot : ℕ
-  pub begun : IsLengthAt (begins_attempt event.client) (event ∷ earlier) snapshot
-  pub first : first_later writes_of (entries_of event.before.objects.store.journal) snapshot reads ≡ Some (version, spelled_key key)
-  pub after : snapshot < version
-  pub within : version ≤ length event.before.objects.store.journal
+pub record IsLater (event : Event) (earlier : List Event) (reads : ReadSet) (version : ℕ) (key : Key) : Type 0
+  where
+    pub snapshot : ℕ
+    pub begun : IsLengthAt (begins_attempt event.client) (event ∷ earlier) snapshot
+    pub first : first_later writes_of (entries_of event.before.objects.store.journal) snapshot reads
+        ≡ Some (version, spelled_key key)
+    pub after : snapshot < version
+    pub within : version ≤ length event.before.objects.store.journal
 
 abbrev pub ConflictsAreLater : Type 0
 ConflictsAreLater =
-    (plan : Plan) (event : Event) (earlier : List Event) (entry : Entry) (version : ℕ) (key : Key) → EndsWith plan event earlier → HasAsked event (asks.Commit entry) (answers.Conflict version key)
+    (plan : Plan) (event : Event) (earlier : List Event) (entry : Entry) (version : ℕ) (key : Key)
+    → EndsWith plan event earlier → HasAsked event (asks.Commit entry) (answers.Conflict version key)
     → IsLater event earlier entry.reads version key
 
 -- an attempt meets none where the journal is as it was at the attempt's Begin
 abbrev pub UndisturbedAttemptsMeetNone : Type 0
 UndisturbedAttemptsMeetNone =
-    (plan : Plan) (event : Event) (earlier : List Event) (entry : Entry) (version : ℕ) (key : Key) → EndsWith plan event earlier
-    → IsLengthAt (begins_attempt event.client) (event ∷ earlier) (length event.before.objects.store.journal) → HasAsked event (asks.Commit entry) (answers.Conflict version key) → ⊥
+    (plan : Plan) (event : Event) (earlier : List Event) (entry : Entry) (version : ℕ) (key : Key)
+    → EndsWith plan event earlier
+    → IsLengthAt (begins_attempt event.client) (event ∷ earlier) (length event.before.objects.store.journal)
+    → HasAsked event (asks.Commit entry) (answers.Conflict version key) → ⊥

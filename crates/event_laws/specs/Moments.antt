@@ -52,7 +52,8 @@ begins_attempt client event = is_of is_beginning client event
 -- one of these events passes the test, and just before the newest that does the journal had this length
 abbrev pub IsLengthAt : (Event → Bool) → List Event → ℕ → Type 0
 IsLengthAt test [] count = ⊥
-IsLengthAt test (event ∷ earlier) count = MatchBool (test event) (count ≡ length event.before.objects.store.journal) (IsLengthAt test earlier count)
+IsLengthAt test (event ∷ earlier) count =
+    MatchBool (test event) (count ≡ length event.before.objects.store.journal) (IsLengthAt test earlier count)
 
 -- the events before the newest that passes the test
 abbrev pub events_before : (Event → Bool) → List Event → List Event
@@ -72,7 +73,9 @@ pub record HasAsked (event : Event) (ask : Ask) (answer : Answer) : Type 0 where
   pub later : Seat
   pub was : slice_get event.before.seats event.client ≡ Some seat
   pub is : slice_get event.after.seats event.client ≡ Some later
-  pub turn : IsEvent event.before.config event.before.attempts event.client (entries_of event.before.objects.store.journal) (entries_of event.after.objects.store.journal) seat later
+  pub turn : IsEvent event.before.config event.before.attempts event.client
+      (entries_of event.before.objects.store.journal) (entries_of event.after.objects.store.journal) seat
+      later
   pub ask_is : turn.exchanged.work.ask ≡ ask
   pub answer_is : turn.exchanged.exchange.answer ≡ answer
 
@@ -87,7 +90,8 @@ pub record HasTold (event : Event) (listed : Listed) : Type 0 where
 -- the client learned so in one of these events
 abbrev pub IsToldIn : ℕ → Listed → List Event → Type 0
 IsToldIn client listed [] = ⊥
-IsToldIn client listed (event ∷ earlier) = ((event.client ≡ client) × HasTold event listed) ⊎ IsToldIn client listed earlier
+IsToldIn client listed (event ∷ earlier) =
+    ((event.client ≡ client) × HasTold event listed) ⊎ IsToldIn client listed earlier
 
 -- an attempt of the client met this conflict
 pub record HasMet (client : ℕ) (pair : ℕ × Key) (event : Event) : Type 0 where
@@ -98,4 +102,5 @@ pub record HasMet (client : ℕ) (pair : ℕ × Key) (event : Event) : Type 0 wh
 -- so it was in one of these events, back to the first of the client's call
 abbrev pub IsMetIn : ℕ → ℕ × Key → List Event → Type 0
 IsMetIn client pair [] = ⊥
-IsMetIn client pair (event ∷ earlier) = HasMet client pair event ⊎ ((begins_call client event ≡ false) × IsMetIn client pair earlier)
+IsMetIn client pair (event ∷ earlier) =
+    HasMet client pair event ⊎ ((begins_call client event ≡ false) × IsMetIn client pair earlier)

@@ -36,7 +36,8 @@ pub fn uncommitted_replies_are_begun()
     ensures { UncommittedRepliesAreBegun }
 {}
 
-/// Each conflict of a receipt was met in an event of its call. It is the first later write behind its attempt's
+/// Each conflict of a receipt was met in an event of its call. It is the first later write behind its
+/// attempt's
 /// Begin, so that an attempt meets none where nothing was committed since. It does nothing.
 pub fn conflicts_are_later()
     ensures met { ConflictsWereMet }

@@ -48,7 +48,9 @@ HasLeft tries = length tries.conflicts < tries.attempts
 
 -- a query, or an update that is newer than its client's kept reply, which was read
 abbrev pub IsNew : Request → ReadSet → Type 0
-IsNew q reads = (is_query q.call ≡ true) ⊎ ((is_query q.call ≡ false) × IsKeptBefore reads q × IsKeyRead reads (keys.Idem q.client))
+IsNew q reads =
+    (is_query q.call ≡ true)
+    ⊎ ((is_query q.call ≡ false) × IsKeptBefore reads q × IsKeyRead reads (keys.Idem q.client))
 
 -- an operation of the request under way: it comes to the same, and reads what is left
 pub record IsUnder (C : Settings) (q : Request) (reads : ReadSet) (op : OpTask) : Type 0 where
@@ -104,10 +106,12 @@ pub record IsState (s : State) : Type 0 where
 abbrev pub IsHeld : State → Type 0
 IsHeld s = ((s.waiting ≡ waits.Failed) × (s.outcome ≡ None)) ⊎ IsState s
 
--- after an answer that is among the reads: the operation is still that of the request, or what stands at the client's key was read
+-- after an answer that is among the reads: the operation is still that of the request, or what stands at the
+-- client's key was read
 abbrev pub IsNoted : Option OpTask → State → State → Answer → Type 0
 IsNoted (Some op) old new answer = IsUnder new.config new.request new.txn.reads op
 IsNoted None old new (answers.Got got) =
-    (is_query new.request.call ≡ false) × (new.txn.reads ≡ with_key no_reads (spelled_key (keys.Idem new.request.client)) got.value)
+    (is_query new.request.call ≡ false)
+    × (new.txn.reads ≡ with_key no_reads (spelled_key (keys.Idem new.request.client)) got.value)
     × (old.waiting ≡ waits.Reading (asks.Get (keys.Idem old.request.client)))
 IsNoted None old new answer = ⊥

@@ -24,7 +24,9 @@ use Rattle.meta_task.specs.declared.waiting.Waiting.TheVariants as waits
 -- none, no row, or the row of an earlier request
 abbrev pub IsEarlier : Option (List ℕ) → ℕ → Type 0
 IsEarlier None number = Unit {0}
-IsEarlier (Some bytes) number = ((place : ℕ) × (kept_of bytes ≡ Err place)) ⊎ ((row : KeptRow) × (kept_of bytes ≡ Ok row) × (row.number < number))
+IsEarlier (Some bytes) number =
+    ((place : ℕ) × (kept_of bytes ≡ Err place))
+    ⊎ ((row : KeptRow) × (kept_of bytes ≡ Ok row) × (row.number < number))
 
 pub record IsRowOf (value : Option (List ℕ)) (row : KeptRow) : Type 0 where
   pub found : value ≡ Some (spelled_kept row)
@@ -38,8 +40,10 @@ TellsRow row number (kept.Later later) = (row.number ≡ later) × (number < lat
 
 abbrev pub TellsKept : Option (List ℕ) → ℕ → Kept → Type 0
 TellsKept value number kept.Earlier = IsEarlier value number
-TellsKept value number (kept.Same reply) = (row : KeptRow) × IsRowOf value row × (row.number ≡ number) × (row.reply ≡ reply)
-TellsKept value number (kept.Later later) = (row : KeptRow) × IsRowOf value row × (row.number ≡ later) × (number < later)
+TellsKept value number (kept.Same reply) =
+    (row : KeptRow) × IsRowOf value row × (row.number ≡ number) × (row.reply ≡ reply)
+TellsKept value number (kept.Later later) =
+    (row : KeptRow) × IsRowOf value row × (row.number ≡ later) × (number < later)
 
 -- ---- the next ask of an attempt
 
@@ -57,7 +61,9 @@ IsCommitting waiting = ⊥
 
 -- the task that knows so much has ended with this outcome
 abbrev pub Ends : TaskView → TaskView → Outcome → Type 0
-Ends known new outcome = (new ≡ record known { waiting = waits.Ended; outcome = Some outcome }) × (outcome.conflicts ≡ known.conflicts)
+Ends known new outcome =
+    (new ≡ record known { waiting = waits.Ended; outcome = Some outcome })
+    × (outcome.conflicts ≡ known.conflicts)
 
 pub record IsLooking (known new : TaskView) (ask : Ask) : Type 0 where
   pub is : new ≡ record known { waiting = waits.Reading ask }
@@ -70,7 +76,8 @@ GoesTo known new (asks.Get key) = IsLooking known new (asks.Get key)
 GoesTo known new (asks.Range lo hi limit) = IsLooking known new (asks.Range lo hi limit)
 GoesTo known new (asks.Commit entry) =
     (new ≡ record known { waiting = waits.Committing entry.reply }) × (new.begun ≡ true)
-    × (entry.request ≡ new.request) × (entry.reads ≡ new.reads) × IsSoundEntry new.config entry × HasReadAll new
+    × (entry.request ≡ new.request) × (entry.reads ≡ new.reads) × IsSoundEntry new.config entry
+    × HasReadAll new
 GoesTo known new asks.Done = (outcome : Outcome) × Ends known new outcome × IsToldReply known outcome
 GoesTo known new ask = ⊥
 
@@ -91,4 +98,9 @@ Repeats known got new ask = ⊥
 
 -- what a task comes to with this reply
 abbrev pub EndsWith : TaskView → TaskView → Reply → ℕ → Bool → Type 0
-EndsWith known new reply version committed = new ≡ record known { waiting = waits.Ended; outcome = Some (record { reply = reply; version = version; committed = committed; conflicts = known.conflicts }) }
+EndsWith known new reply version committed =
+    new ≡ record known {
+      waiting = waits.Ended;
+      outcome = Some
+          (record { reply = reply; version = version; committed = committed; conflicts = known.conflicts });
+    }

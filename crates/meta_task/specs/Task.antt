@@ -83,8 +83,10 @@ reads_with reads waiting answer = reads
 abbrev pub learnt : TaskView → Answer → TaskView
 learnt task (answers.Begun version) = record task { begun = true; snapshot = version; reads = no_reads }
 learnt task (answers.Got got) = record task { reads = reads_with task.reads task.waiting (answers.Got got) }
-learnt task (answers.Rows rows) = record task { reads = reads_with task.reads task.waiting (answers.Rows rows) }
-learnt task (answers.Conflict version key) = record task { begun = false; conflicts = task.conflicts ++ (version, key) ∷ [] }
+learnt task (answers.Rows rows) =
+    record task { reads = reads_with task.reads task.waiting (answers.Rows rows) }
+learnt task (answers.Conflict version key) =
+    record task { begun = false; conflicts = task.conflicts ++ (version, key) ∷ [] }
 learnt task answer = task
 
 -- ---- where an outcome comes from
@@ -110,7 +112,8 @@ abbrev pub IsStale : Reply → Type 0
 IsStale reply = (kept : ℕ) × (reply ≡ Refused (codes.Stale kept))
 
 abbrev pub ShowsNew : TaskView → Reply → Type 0
-ShowsNew task reply = (is_query task.request.call ≡ true) ⊎ (IsKeptBefore task.reads task.request ⊎ IsStale reply)
+ShowsNew task reply =
+    (is_query task.request.call ≡ true) ⊎ (IsKeptBefore task.reads task.request ⊎ IsStale reply)
 
 -- what was read tells the reply
 pub record IsToldReply (task : TaskView) (outcome : Outcome) : Type 0 where
@@ -174,14 +177,19 @@ pub record IsRead (old : TaskView) (answer : Answer) (new : TaskView) (ask : Ask
 
 -- the next ask, after an answer to a task that was old
 abbrev pub Asks : TaskView → Answer → TaskView → Ask → Type 0
-Asks old answer new asks.Begin = (new ≡ record (learnt old answer) { waiting = waits.Beginning }) × (new.begun ≡ false) × BeginsAfter answer × (length new.conflicts < new.attempts)
+Asks old answer new asks.Begin =
+    (new ≡ record (learnt old answer) { waiting = waits.Beginning }) × (new.begun ≡ false)
+    × BeginsAfter answer × (length new.conflicts < new.attempts)
 Asks old answer new (asks.Get key) = IsRead old answer new (asks.Get key)
 Asks old answer new (asks.Range lo hi limit) = IsRead old answer new (asks.Range lo hi limit)
 Asks old answer new (asks.Commit entry) =
-    (new ≡ record (learnt old answer) { waiting = waits.Committing entry.reply }) × (new.begun ≡ true) × GoesOnAfter answer
-    × (entry.request ≡ new.request) × (entry.reads ≡ new.reads) × IsSoundEntry new.config entry × HasReadAll new
+    (new ≡ record (learnt old answer) { waiting = waits.Committing entry.reply }) × (new.begun ≡ true)
+    × GoesOnAfter answer
+    × (entry.request ≡ new.request) × (entry.reads ≡ new.reads) × IsSoundEntry new.config entry
+    × HasReadAll new
 Asks old answer new asks.Done =
-    (outcome : Outcome) × (new ≡ record (learnt old answer) { waiting = waits.Ended; outcome = Some outcome }) × (outcome.conflicts ≡ new.conflicts) × HasOrigin old (learnt old answer) answer outcome
+    (outcome : Outcome) × (new ≡ record (learnt old answer) { waiting = waits.Ended; outcome = Some outcome })
+    × (outcome.conflicts ≡ new.conflicts) × HasOrigin old (learnt old answer) answer outcome
 Asks old answer new ask = ⊥
 
 -- ---- the end

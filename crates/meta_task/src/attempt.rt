@@ -38,7 +38,8 @@ fn copy_request(alloc: Global, request: &Request) -> Result<Request, Memory>
 
 /// The bytes of a kept reply.
 fn kept_bytes(alloc: Global, number: u64, reply: &Reply) -> Result<Vec<u8>, Memory>
-    ensures { IfOk result (λ bytes. bytes.items ≡ spelled_value (KeptValue (record { number = number; reply = reply.now }))) }
+    ensures { IfOk result
+        (λ bytes. bytes.items ≡ spelled_value (KeptValue (record { number = number; reply = reply.now }))) }
 {
     let reply = reply.try_clone(alloc)?;
     let row = KeptRow { number, reply };
@@ -58,8 +59,12 @@ struct Parts {
 
 /// The parts of an attempt's entry; the kept reply is the last write.
 fn parts_of(alloc: Global, request: &Request, txn: &mut Txn, reply: &Reply) -> Result<Parts, Memory>
-    ensures parts { IfOk result (λ parts. (parts.request ≡ request.now) × (parts.kept ≡ reply.now) × (parts.reads ≡ txn.old.reads)) }
-    ensures writes { IfOk result (λ parts. parts.writes.writes ≡ set_write (spelled_key (keys.Idem request.now.client)) (Some (spelled_value (kept_value request.now reply.now))) txn.old.writes) }
+    ensures parts { IfOk result
+        (λ parts. (parts.request ≡ request.now) × (parts.kept ≡ reply.now) × (parts.reads ≡ txn.old.reads)) }
+    ensures writes { IfOk result
+        (λ parts. parts.writes.writes
+        ≡ set_write (spelled_key (keys.Idem request.now.client))
+        (Some (spelled_value (kept_value request.now reply.now))) txn.old.writes) }
     ensures kept { OnOk result ((txn.new.reads ≡ txn.old.reads) × (txn.new.snapshot ≡ txn.old.snapshot)) }
 {
     let bytes = kept_bytes(alloc, request.number, reply)?;
@@ -83,7 +88,8 @@ impl State {
         requires unwritten { self.old.txn.writes ≡ [] }
         requires asks { IsReading self.old.config self.old.request self.old.txn.reads ask op }
         requires fresh { IsNewAsk self.old.txn.reads ask }
-        requires touched { MayAsk self.old.config (λ T. footprint self.old.config T self.old.request) self.old.txn.reads ask }
+        requires touched { MayAsk self.old.config (λ T. footprint self.old.config T self.old.request) self.old.txn.reads
+            ask }
         ensures state { OnOk result (IsState self.new) }
         ensures goes { IfOk result (λ next. GoesTo (view_of self.old) (view_of self.new) next) }
     {
@@ -110,7 +116,18 @@ impl State {
     /// The commit, with the kept reply as its last write.
     fn commit(&mut self, reply: Reply, asked: Items<Asked>) -> Result<Ask, Memory>
         requires going { IsGoing self.old }
-        requires sound { (writes : WriteSet) → writes.writes ≡ set_write (spelled_key (keys.Idem self.old.request.client)) (Some (spelled_value (kept_value self.old.request reply))) self.old.txn.writes → IsSoundEntry self.old.config (record { request = self.old.request; reply = reply; asked = asked; reads = self.old.txn.reads; writes = writes }) }
+        requires sound { (writes : WriteSet)
+            → writes.writes
+            ≡ set_write (spelled_key (keys.Idem self.old.request.client))
+            (Some (spelled_value (kept_value self.old.request reply))) self.old.txn.writes
+            → IsSoundEntry self.old.config
+            (record {
+              request = self.old.request;
+              reply = reply;
+              asked = asked;
+              reads = self.old.txn.reads;
+              writes = writes;
+            }) }
         requires all { HasReadAll (view_of self.old) }
         ensures state { OnOk result (IsState self.new) }
         ensures goes { IfOk result (λ next. GoesTo (view_of self.old) (view_of self.new) next) }
@@ -131,7 +148,8 @@ impl State {
         }))
     }
 
-    /// What the operation's commit comes to. No store has rows that agree with what a query has read that would
+    /// What the operation's commit comes to. No store has rows that agree with what a query has read that
+    /// would
     /// commit; any reply is right then.
     fn commit_of(&mut self, op: OpTask, reply: Reply, asked: Items<Asked>) -> Result<Ask, Memory>
         requires going { IsGoing self.old }

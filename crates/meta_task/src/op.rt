@@ -102,13 +102,16 @@ impl OpTask {
         }
     }
 
-    /// The next step, once the answer is among the reads. Once memory ran out the answer is want of memory from then on.
+    /// The next step, once the answer is among the reads. Once memory ran out the answer is want of memory
+    /// from then on.
     pub fn next(&mut self, alloc: Global, answer: Answer, txn: &mut Txn) -> Result<OpStep, Memory>
         requires ready { IsReady self.old }
         requires writes { txn.old.writes ≡ [] }
         ensures config { OnOk result (config_of self.new ≡ config_of self.old) }
         ensures ready { OnOk result (IsReady self.new) }
-        ensures step { IfOk result (HasStepped (config_of self.old) (areas_of self.old) (areas_of self.new) (effect_of self.old) (effect_of self.new) txn.old txn.new) }
+        ensures step { IfOk result
+            (HasStepped (config_of self.old) (areas_of self.old) (areas_of self.new) (effect_of self.old)
+            (effect_of self.new) txn.old txn.new) }
     {
         match self {
             OpTask::Attr(task) => {

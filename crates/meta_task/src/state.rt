@@ -81,7 +81,8 @@ impl State {
         requires { IsTaken self.old.config self.old.request }
         ensures state { OnOk result (IsState self.new) }
         ensures done { IfOk result (λ ask. ask ≡ asks.Done) }
-        ensures ends { IfOk result (λ ask. EndsWith (view_of self.old) (view_of self.new) reply version committed) }
+        ensures ends { IfOk result
+            (λ ask. EndsWith (view_of self.old) (view_of self.new) reply version committed) }
     {
         set_waiting(&mut self.waiting, Waiting::Ended);
         let conflicts = self.retry.conflicts(self.alloc)?;

@@ -67,7 +67,8 @@ impl State {
         ensures going { IsGoing self.new }
         ensures unwritten { self.new.txn.writes ≡ [] }
         ensures reads { self.new.txn.reads ≡ no_reads }
-        ensures known { view_of self.new ≡ record (learnt (view_of self.old) (answers.Begun version)) { waiting = waits.Ended } }
+        ensures known { view_of self.new
+            ≡ record (learnt (view_of self.old) (answers.Begun version)) { waiting = waits.Ended } }
     {
         set_waiting(&mut self.waiting, Waiting::Ended);
         self.txn.begin(self.alloc, version);
@@ -92,7 +93,8 @@ impl State {
         requires fits { Fits self.old.waiting (answers.Begun version) }
         requires state { IsState self.old }
         ensures state { OnOk result (IsState self.new) }
-        ensures asks { IfOk result (λ ask. Asks (view_of self.old) (answers.Begun version) (view_of self.new) ask) }
+        ensures asks { IfOk result
+            (λ ask. Asks (view_of self.old) (answers.Begun version) (view_of self.new) ask) }
     {
         self.restart(version);
         if is_query(&self.request.call) {
@@ -110,7 +112,8 @@ impl State {
         requires state { IsState self.old }
         ensures going { OnOk result (IsGoing self.new) }
         ensures unwritten { OnOk result (self.new.txn.writes ≡ []) }
-        ensures known { OnOk result (view_of self.new ≡ record (learnt (view_of self.old) answer.now) { waiting = waits.Ended }) }
+        ensures known { OnOk result
+            (view_of self.new ≡ record (learnt (view_of self.old) answer.now) { waiting = waits.Ended }) }
         ensures noted { OnOk result (IsNoted self.new.op self.old self.new answer.now) }
     {
         let waiting = mem::replace(&mut self.waiting, Waiting::Ended);
@@ -124,9 +127,12 @@ impl State {
         requires going { IsGoing self.old }
         requires unwritten { self.old.txn.writes ≡ [] }
         requires update { asks_only self.old.request.call ≡ false }
-        requires reads { self.old.txn.reads ≡ with_key no_reads (spelled_key (keys.Idem self.old.request.client)) got.value }
+        requires reads { self.old.txn.reads
+            ≡ with_key no_reads (spelled_key (keys.Idem self.old.request.client)) got.value }
         ensures state { OnOk result (IsState self.new) }
-        ensures goes { IfOk result (λ next. GoesTo (view_of self.old) (view_of self.new) next ⊎ Repeats (view_of self.old) got (view_of self.new) next) }
+        ensures goes { IfOk result
+            (λ next. GoesTo (view_of self.old) (view_of self.new) next
+            ⊎ Repeats (view_of self.old) got (view_of self.new) next) }
     {
         let kept = kept_of(self.alloc, &got.value, self.request.number)?;
         match kept {
@@ -170,7 +176,8 @@ impl State {
         requires fits { Fits self.old.waiting (answers.Committed version) }
         requires state { IsState self.old }
         ensures state { OnOk result (IsState self.new) }
-        ensures asks { IfOk result (λ ask. Asks (view_of self.old) (answers.Committed version) (view_of self.new) ask) }
+        ensures asks { IfOk result
+            (λ ask. Asks (view_of self.old) (answers.Committed version) (view_of self.new) ask) }
     {
         let waiting = mem::replace(&mut self.waiting, Waiting::Ended);
         let reply = committing(waiting);
@@ -182,7 +189,8 @@ impl State {
         requires fits { Fits self.old.waiting (answers.Conflict version key) }
         requires state { IsState self.old }
         ensures state { OnOk result (IsState self.new) }
-        ensures asks { IfOk result (λ ask. Asks (view_of self.old) (answers.Conflict version key) (view_of self.new) ask) }
+        ensures asks { IfOk result
+            (λ ask. Asks (view_of self.old) (answers.Conflict version key) (view_of self.new) ask) }
     {
         set_waiting(&mut self.waiting, Waiting::Ended);
         let more = self.retry.again(version, key)?;

@@ -45,7 +45,14 @@ receipt_of script op version step reply =
 
 -- what the one client, 0, keeps; it has seen all versions so far
 abbrev pub listed : Settings → ℕ → Receipt → Listed
-listed C version receipt = record { client = 0; fronts = fronts_of C version; receipt = receipt; text = text_of receipt.call receipt.reply }
+listed C version receipt =
+    record {
+      client = 0;
+      fronts = fronts_of C version;
+      receipt = receipt;
+      text = text_of receipt.call
+          receipt.reply;
+    }
 
 -- the receipts of the operations from op on, over the tree at this version; none of them settles a length
 unfoldable pub receipts_from : Settings → Script → Tree → ℕ → ℕ → List Op → List Listed

@@ -26,10 +26,13 @@ is_step (word ∷ []) = bytes_eq (string_bytes word) (codes "step")
 is_step (word ∷ next ∷ words) = false
 
 abbrev pub usage_line : List ℕ
-usage_line = line (codes "usage:" ∷ codes "fs3meta" ∷ codes "check," ∷ codes "step," ∷ codes "run," ∷ codes "audit," ∷ codes "make" ∷ [])
+usage_line =
+    line (codes "usage:" ∷ codes "fs3meta" ∷ codes "check," ∷ codes "step," ∷ codes "run," ∷ codes "audit,"
+    ∷ codes "make" ∷ [])
 
 abbrev pub bad_line : Broken → List ℕ
-bad_line broken = line (codes "bad" ∷ setting (codes "rule=") broken.rule ∷ setting (codes "place=") broken.place ∷ [])
+bad_line broken =
+    line (codes "bad" ∷ setting (codes "rule=") broken.rule ∷ setting (codes "place=") broken.place ∷ [])
 
 -- the text is that of a record which is right for the plan
 pub record IsRunOf (plan : Plan) (text : List ℕ) : Type 0 where
@@ -68,7 +71,8 @@ abbrev pub CallsFor : List ℕ → Status → List ℕ → Type 0
 CallsFor bytes status.Ok text = (plan : Plan) × (scenario_of bytes ≡ Ok plan) × IsRunOf plan text
 CallsFor bytes status.AuditNo text = ⊥
 CallsFor bytes status.Usage text = ⊥
-CallsFor bytes status.Bad text = (broken : Broken) × (scenario_of bytes ≡ Err broken) × (text ≡ bad_line broken)
+CallsFor bytes status.Bad text =
+    (broken : Broken) × (scenario_of bytes ≡ Err broken) × (text ≡ bad_line broken)
 CallsFor bytes status.ReadFault text = ⊥
 CallsFor bytes status.WriteFault text = ⊥
 CallsFor bytes status.Memory text = ⊥

@@ -14,7 +14,8 @@ use std::env::Args;
 use std::io;
 use std::process::ExitCode;
 
-/// Does what the command line says, which begins with the program's name: `plain_main` for the words behind it.
+/// Does what the command line says, which begins with the program's name: `plain_main` for the words behind
+/// it.
 ///
 /// A word that isn't Unicode is in no grammar, so that it is as if there were no words.
 pub fn command<I: Source, O: Sink>(

@@ -33,14 +33,16 @@ struct Answer {
 
 /// Does what the words say, from the source to the sink, and always returns.
 ///
-/// The words are the command line without the program's name. The whole text is made before its first byte is written.
+/// The words are the command line without the program's name. The whole text is made before its first byte is
+/// written.
 pub fn plain_main<I: Source, O: Sink>(
     alloc: Global,
     words: &[String],
     input: &mut I,
     output: &mut O,
 ) -> Status
-    // What is written at each status. At `Ok` the source's bytes read as a plan, and the text is that of a record which
+    // What is written at each status. At `Ok` the source's bytes read as a plan, and the text is that of a
+    // record which
     // is right for the plan: its entries are a history of the plain tree, and each receipt is owed to them.
     // At `Bad` the text names the first broken rule.
     ensures writes { Writes (IsDue words.now (I.left input.old) (I.left input.new))
@@ -71,7 +73,8 @@ fn due_answer<I: Source>(
     words: &[String],
     input: &mut I,
 ) -> Result<Answer, ReadAllError>
-    ensures due { IfOk result (λ a. IsDue words.now (I.left input.old) (I.left input.new) a.status a.text.items) }
+    ensures due { IfOk result
+        (λ a. IsDue words.now (I.left input.old) (I.left input.new) a.status a.text.items) }
     ensures untouched { is_step words.now ≡ false → input.new ≡ input.old }
     ensures words { result ≡ Err ReadAllError.ReadFault → IsTrue (is_step words.now) }
     ensures fault { TellsFault (I.faults input.old) (I.faults input.new) result }

@@ -20,8 +20,10 @@ changed_row given stamp row = record row {
 }
 
 abbrev pub with_inode : Transaction → ℕ → InodeRow → Transaction
-with_inode t id row = record t { writes = set_write (spelled_key (keys.Inode id)) (Some (spelled_inode row)) t.writes }
+with_inode t id row =
+    record t { writes = set_write (spelled_key (keys.Inode id)) (Some (spelled_inode row)) t.writes }
 
 -- the new row is put where it differs from the one that stands there
 abbrev pub PutsChanged : ℕ → InodeRow → InodeRow → Transaction → Transaction → Type 0
-PutsChanged id row new old after = ((new ≡ row) × (after ≡ old)) ⊎ ((new ≢ row) × (after ≡ with_inode old id new))
+PutsChanged id row new old after =
+    ((new ≡ row) × (after ≡ old)) ⊎ ((new ≢ row) × (after ≡ with_inode old id new))

@@ -168,7 +168,9 @@ impl AttrTask {
         requires writes { txn.old.writes ≡ [] }
         ensures config { OnOk result (self.new.config ≡ self.old.config) }
         ensures ready { OnOk result (IsReady self.new) }
-        ensures step { IfOk result (HasStepped self.old.config (areas_of self.old) (areas_of self.new) (effect_of self.old) (effect_of self.new) txn.old txn.new) }
+        ensures step { IfOk result
+            (HasStepped self.old.config (areas_of self.old) (areas_of self.new) (effect_of self.old)
+            (effect_of self.new) txn.old txn.new) }
         ensures alive { OnOk result ((self.old.failed ≡ false) × (self.new.failed ≡ false)) }
         ensures err { OnErr result (self.new.failed ≡ true) }
     {
@@ -187,7 +189,9 @@ impl AttrTask {
         requires writes { txn.old.writes ≡ [] }
         ensures config { OnOk result (self.new.config ≡ self.old.config) }
         ensures ready { OnOk result (IsReady self.new) }
-        ensures step { IfOk result (HasStepped self.old.config (areas_of self.old) (areas_of self.new) (effect_of self.old) (effect_of self.new) txn.old txn.new) }
+        ensures step { IfOk result
+            (HasStepped self.old.config (areas_of self.old) (areas_of self.new) (effect_of self.old)
+            (effect_of self.new) txn.old txn.new) }
     {
         match self.stage.next(alloc, txn)? {
             Reached::Ask(ask) => Ok(OpStep::Ask(ask)),

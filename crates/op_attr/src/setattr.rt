@@ -73,7 +73,8 @@ pub(crate) fn setattr(
 ) -> Result<OpStep, Memory>
     requires ready { MaySet (attr.Setattr stamp changes) }
     requires writes { txn.old.writes ≡ [] }
-    ensures { IfOk result (λ s. (kind : Kind) → IsEndStep (attr.Setattr stamp changes) (At id kind) txn.old txn.new s) }
+    ensures { IfOk result
+        (λ s. (kind : Kind) → IsEndStep (attr.Setattr stamp changes) (At id kind) txn.old txn.new s) }
 {
     let row = match want_inode(alloc, txn, id)? {
         Want::Ask(key) => return Ok(OpStep::Ask(Ask::Get(key))),

@@ -46,13 +46,16 @@ fn end_of(call: AttrCall) -> WalkEnd
 }
 
 impl AttrTask {
-    /// The task of a query by place, or of setattr. Nothing is asked for yet; a fault in the place's text is known.
+    /// The task of a query by place, or of setattr. Nothing is asked for yet; a fault in the place's text is
+    /// known.
     pub fn new(alloc: Global, request: &Request, config: &Config) -> Result<AttrTask, Memory>
         requires valid { IsRequest config.now request.now }
         requires call { IsAttrCall request.now.call }
         ensures config { IfOk result (λ task. task.config ≡ config.now) }
         ensures effect { IfOk result (λ task. (T : Tree) → effect_of task T ≡ effect config.now T request.now) }
-        ensures areas { IfOk result (λ task. (T : Tree) → areas_of task T ≡ call_areas config.now T request.now.server request.now.call) }
+        ensures areas { IfOk result
+            (λ task. (T : Tree)
+            → areas_of task T ≡ call_areas config.now T request.now.server request.now.call) }
         ensures ready { IfOk result IsReady }
     {
         match &request.call {
@@ -85,7 +88,9 @@ impl AttrTask {
         requires call { IsCallAt request.now.stamp request.now.call call place.now }
         ensures config { IfOk result (λ task. task.config ≡ config.now) }
         ensures effect { IfOk result (λ task. (T : Tree) → effect_of task T ≡ effect config.now T request.now) }
-        ensures areas { IfOk result (λ task. (T : Tree) → areas_of task T ≡ call_areas config.now T request.now.server request.now.call) }
+        ensures areas { IfOk result
+            (λ task. (T : Tree)
+            → areas_of task T ≡ call_areas config.now T request.now.server request.now.call) }
         ensures ready { IfOk result IsReady }
     {
         let stage = Stage::new(alloc, place, end_of(call), None)?;

@@ -43,7 +43,8 @@ areas_of task = looks (child_at task.server) (trip_at task.stage)
 
 -- a step there
 abbrev pub IsEndStep : CreateTask → Walked → Transaction → Transaction → OpStep → Type 0
-IsEndStep task walked before after s = HasDone task.config (λ T. child_at task.server T walked) (λ T. made_at task T walked) before after s
+IsEndStep task walked before after s =
+    HasDone task.config (λ T. child_at task.server T walked) (λ T. made_at task T walked) before after s
 
 -- ---- what the row of the new node asks
 
@@ -58,8 +59,11 @@ IsWalkReady C node (Walking walk) = IsMaking C node
 
 -- numbers in their ranges, and past the words where the walk is under way
 abbrev pub IsReady : CreateTask → Type 0
-IsReady task = (task.server < SERVERS) × (task.node.mode < MODES) × (task.stamp < TIMES) × IsWalkReady task.config task.node task.stage
+IsReady task =
+    (task.server < SERVERS) × (task.node.mode < MODES) × (task.stamp < TIMES)
+    × IsWalkReady task.config task.node task.stage
 
 -- where well-formed rows agree with the reads, the way has come past the words
 abbrev pub HasComeTo : CreateTask → ReadSet → Type 0
-HasComeTo task reads = (S : TypedRows) → IsWellFormed task.config S → Agrees S reads → IsMaking task.config task.node
+HasComeTo task reads =
+    (S : TypedRows) → IsWellFormed task.config S → Agrees S reads → IsMaking task.config task.node

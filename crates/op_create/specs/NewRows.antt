@@ -26,7 +26,9 @@ abbrev pub node_puts : CreateTask → ℕ → List ℕ → DefaultLayout → ℕ
 node_puts task dir name layout number =
     let id = id_of number task.server in
     let row = new_row task.config task.node task.stamp id dir layout in
-    (keys.Alloc task.server, Some (AllocValue (number + 1))) ∷ (keys.Dent dir name, Some (DentValue (new_entry id row))) ∷ (keys.Inode id, Some (InodeValue row)) ∷ []
+    (keys.Alloc task.server, Some (AllocValue (number + 1)))
+    ∷ (keys.Dent dir name, Some (DentValue (new_entry id row))) ∷ (keys.Inode id, Some (InodeValue row))
+    ∷ []
 
 -- ---- what is known of the directory
 
@@ -38,14 +40,18 @@ pub record HasDefault (reads : ReadSet) (dir : ℕ) (layout : DefaultLayout) : T
   pub seen : IsKeyRead reads (keys.Inode dir)
   pub there : (S : TypedRows) → Agrees S reads → get S.inodes dir ≡ Some row
 
--- its row is still to be asked for, or no well-formed rows that agree have a directory there, or all have one with this default
+-- its row is still to be asked for, or no well-formed rows that agree have a directory there, or all have one
+-- with this default
 abbrev pub IsInDir : InDir → ReadSet → ℕ → Type 0
 IsInDir (found.Ask key) reads dir = (key ≡ keys.Inode dir) × IsUnread reads (keys.Inode dir)
-IsInDir found.NotDir reads dir = IsKeyRead reads (keys.Inode dir) × ((C : Settings) (S : TypedRows) → IsWellFormed C S → Agrees S reads → HasKind S dir kinds.Dir → ⊥)
+IsInDir found.NotDir reads dir =
+    IsKeyRead reads (keys.Inode dir)
+    × ((C : Settings) (S : TypedRows) → IsWellFormed C S → Agrees S reads → HasKind S dir kinds.Dir → ⊥)
 IsInDir (found.Default layout) reads dir = HasDefault reads dir layout
 
 -- the directory has this default, the name is free in it, and the server's next number is this
-pub record MayMake (task : CreateTask) (reads : ReadSet) (dir : ℕ) (name : List ℕ) (default : DefaultLayout) (number : ℕ) : Type 0 where
+pub record MayMake (task : CreateTask) (reads : ReadSet) (dir : ℕ) (name : List ℕ) (default : DefaultLayout)
+    (number : ℕ) : Type 0 where
   pub in_dir : HasDefault reads dir default
   pub seen_name : IsKeyRead reads (keys.Dent dir name)
   pub seen_next : IsKeyRead reads (keys.Alloc task.server)

@@ -65,7 +65,8 @@ impl CreateTask {
 
     /// The row of the new node.
     fn row(&self, id: InodeId, dir: InodeId, layout: DefaultLayout) -> Result<InodeRow, Memory>
-        ensures { IfOk result (λ row. row ≡ new_row self.now.config self.now.node self.now.stamp id dir layout) }
+        ensures { IfOk result
+            (λ row. row ≡ new_row self.now.config self.now.node self.now.stamp id dir layout) }
     {
         let part = part_at(&self.config, &self.node.part, id, dir, layout)?;
         Ok(InodeRow {
@@ -94,7 +95,8 @@ impl CreateTask {
         requires number { number < LAST_NUMBER }
         requires writes { txn.old.writes ≡ [] }
         ensures id { IfOk result (λ id. id ≡ id_of number self.now.server) }
-        ensures puts { OnOk result (txn.new ≡ record txn.old { writes = put_writes (node_puts self.now dir name.now layout number) }) }
+        ensures puts { OnOk result
+            (txn.new ≡ record txn.old { writes = put_writes (node_puts self.now dir name.now layout number) }) }
     {
         let id = InodeId::new(16 * number + u64::from(self.server));
         let row = self.row(id, dir, layout)?;

@@ -1,4 +1,5 @@
--- How a task begins: by its call, where the walk of its place is to end, and what else is wrong with its words.
+-- How a task begins: by its call, where the walk of its place is to end, and what else is wrong with its
+-- words.
 use Rattle.std.specs.Prelude.{◌≡◌, Option, None}
 use Rattle.fs_base.specs.Paths.{path_of}
 use Rattle.fs_base.specs.declared.call.Call.{Call}

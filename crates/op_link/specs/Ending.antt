@@ -31,17 +31,23 @@ use Rattle.op_link.specs.declared.task.LinkCall.{LinkCall}
 
 -- under whatever configuration it reads what the call reads there, and does what the call does there
 abbrev pub IsEndStep : LinkCall → ℕ → Walked → Transaction → Transaction → OpStep → Type 0
-IsEndStep call stamp walked before after s = (C : Settings) → HasDone C (λ T. reads_at call T walked) (λ T. does_at call stamp T walked) before after s
+IsEndStep call stamp walked before after s =
+    (C : Settings) → HasDone C (λ T. reads_at call T walked) (λ T. does_at call stamp T walked) before after s
 
 -- ---- link's second way
 
 -- a node that is to get a further entry, where the way to the entry's place begins
 abbrev pub IsWayStep : Place → ℕ → ℕ → Transaction → Transaction → OpStep → Type 0
-IsWayStep to id stamp before after s = (C : Settings) → HasDone C (looks (name_at (keys.Inode id)) (way_to to)) (does (λ T. link_to T stamp id) (way_to to)) before after s
+IsWayStep to id stamp before after s =
+    (C : Settings)
+    → HasDone C (looks (name_at (keys.Inode id)) (way_to to)) (does (λ T. link_to T stamp id) (way_to to))
+    before after s
 
 -- and where it ends
 abbrev pub IsJoinStep : ℕ → ℕ → Walked → Transaction → Transaction → OpStep → Type 0
-IsJoinStep id stamp walked before after s = (C : Settings) → HasDone C (λ T. name_at (keys.Inode id) T walked) (λ T. link_to T stamp id walked) before after s
+IsJoinStep id stamp walked before after s =
+    (C : Settings)
+    → HasDone C (λ T. name_at (keys.Inode id) T walked) (λ T. link_to T stamp id walked) before after s
 
 -- ---- what a way has come to
 

@@ -30,7 +30,8 @@ pub(crate) fn rmdir_at(alloc: Global, txn: &mut Txn, walked: Walked) -> Result<O
 
 fn rmdir(alloc: Global, txn: &mut Txn, dir: InodeId, name: &Name) -> Result<OpStep, Memory>
     requires writes { txn.old.writes ≡ [] }
-    ensures { IfOk result (λ s. (stamp : ℕ) → IsEndStep link.Rmdir stamp (AtParent dir name.now) txn.old txn.new s) }
+    ensures { IfOk result
+        (λ s. (stamp : ℕ) → IsEndStep link.Rmdir stamp (AtParent dir name.now) txn.old txn.new s) }
 {
     let entry = match want_dent(alloc, txn, dir, name)? {
         Want::Ask(key) => return Ok(OpStep::Ask(Ask::Get(key))),
@@ -55,7 +56,8 @@ fn remove_dir(
     requires writes { txn.old.writes ≡ [] }
     requires entry { IsEntryRead txn.old.reads dir name.now entry }
     requires is_dir { entry.kind ≡ kinds.Dir }
-    ensures { IfOk result (λ s. (stamp : ℕ) → IsEndStep link.Rmdir stamp (AtParent dir name.now) txn.old txn.new s) }
+    ensures { IfOk result
+        (λ s. (stamp : ℕ) → IsEndStep link.Rmdir stamp (AtParent dir name.now) txn.old txn.new s) }
 {
     match want_range(alloc, txn, entry.inode)? {
         WantFirst::Ask(ask) => Ok(OpStep::Ask(ask)),

@@ -59,14 +59,17 @@ fn fault_of(alloc: Global, call: &LinkCall) -> Result<Option<Code>, Memory>
 }
 
 impl LinkTask {
-    /// The task of a call that adds an entry or takes one away. Nothing is asked for yet; a fault in the call's
+    /// The task of a call that adds an entry or takes one away. Nothing is asked for yet; a fault in the
+    /// call's
     /// words is known.
     pub fn new(alloc: Global, request: &Request, config: &Config) -> Result<LinkTask, Memory>
         requires numbers { IsTrue (is_call (request.now.stamp, request.now.call)) }
         requires call { IsLinkCall request.now.call }
         ensures config { IfOk result (λ task. task.config ≡ config.now) }
         ensures effect { IfOk result (λ task. (T : Tree) → effect_of task T ≡ effect config.now T request.now) }
-        ensures areas { IfOk result (λ task. (T : Tree) → areas_of task T ≡ call_areas config.now T request.now.server request.now.call) }
+        ensures areas { IfOk result
+            (λ task. (T : Tree)
+            → areas_of task T ≡ call_areas config.now T request.now.server request.now.call) }
         ensures ready { IfOk result IsReady }
     {
         match &request.call {
@@ -92,7 +95,9 @@ impl LinkTask {
         requires call { IsCallAt request.now.call call place.now }
         ensures config { IfOk result (λ task. task.config ≡ config.now) }
         ensures effect { IfOk result (λ task. (T : Tree) → effect_of task T ≡ effect config.now T request.now) }
-        ensures areas { IfOk result (λ task. (T : Tree) → areas_of task T ≡ call_areas config.now T request.now.server request.now.call) }
+        ensures areas { IfOk result
+            (λ task. (T : Tree)
+            → areas_of task T ≡ call_areas config.now T request.now.server request.now.call) }
         ensures ready { IfOk result IsReady }
     {
         let fault = fault_of(alloc, &call)?;

@@ -18,7 +18,8 @@ use Rattle.op_rename.specs.Rename.{does_at, reads_at}
 use Rattle.op_rename.specs.declared.place.Spot.{Spot}
 use Rattle.op_rename.specs.declared.place.Spots.{Spots}
 
--- under whatever configuration it reads what the call reads where its first way ends, and does what it does there
+-- under whatever configuration it reads what the call reads where its first way ends, and does what it does
+-- there
 abbrev pub IsEndStep : Place → ℕ → Walked → Transaction → Transaction → OpStep → Type 0
 IsEndStep to stamp walked before after s =
     (C : Settings) → HasDone C (λ T. reads_at to T walked) (λ T. does_at to stamp T walked) before after s
@@ -31,13 +32,15 @@ moves_from from stamp T = rename_at T stamp (AtParent from.dir from.name)
 abbrev pub IsWayStep : Spot → Place → ℕ → DentRow → Transaction → Transaction → OpStep → Type 0
 IsWayStep from to stamp entry before after s =
     (C : Settings)
-    → HasDone C (looks (λ T. placed_at T entry.kind entry.inode) (way_to to)) (does (moves_from from stamp) (way_to to)) before after s
+    → HasDone C (looks (λ T. placed_at T entry.kind entry.inode) (way_to to))
+    (does (moves_from from stamp) (way_to to)) before after s
 
 -- and where it ends
 abbrev pub IsPlaceStep : Spot → ℕ → DentRow → Walked → Transaction → Transaction → OpStep → Type 0
 IsPlaceStep from stamp entry walked before after s =
     (C : Settings)
-    → HasDone C (λ T. placed_at T entry.kind entry.inode walked) (λ T. moves_from from stamp T walked) before after s
+    → HasDone C (λ T. placed_at T entry.kind entry.inode walked) (λ T. moves_from from stamp T walked) before
+    after s
 
 -- both entries are known
 abbrev pub IsMoveStep : Spots → ℕ → DentRow → Option DentRow → Transaction → Transaction → OpStep → Type 0

@@ -4,6 +4,7 @@ use Rattle.std.specs.FinMap.{get}
 use Rattle.conflict_sets.specs.declared.sets.ReadSet.{ReadSet}
 use Rattle.fs_base.specs.Config.{Settings}
 use Rattle.fs_base.specs.declared.kind.Kind.TheVariants as kinds
+use Rattle.fs_base.specs.declared.limits.TheConstants.{INODE_IDS}
 use Rattle.key_schema.specs.Ranges.{dir_prefix, raised}
 use Rattle.row_records.specs.declared.rows.DentRow.{DentRow}
 use Rattle.row_tree.specs.TypedRows.{TypedRows}
@@ -33,7 +34,7 @@ IsOther entry (Some old) = old.inode ≢ entry.inode
 
 abbrev pub IsInRange : Option DentRow → Type 0
 IsInRange None = Unit {0}
-IsInRange (Some old) = old.inode < 2 ^ 36
+IsInRange (Some old) = old.inode < INODE_IDS
 
 -- the entry leads to a directory, and its new place doesn't lie below that
 pub record GoesBeside (reads : ReadSet) (spots : Spots) (entry : DentRow) : Type 0 where

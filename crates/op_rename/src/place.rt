@@ -63,7 +63,8 @@ fn place(
     requires stamp { IsTrue (time.fits stamp) }
     requires writes { txn.old.writes ≡ [] }
     requires entry { IsEntryRead txn.old.reads spots.now.from.dir spots.now.from.name entry }
-    ensures { IfOk result (IsPlaceStep spots.now.from stamp entry (AtParent spots.now.to.dir spots.now.to.name) txn.old txn.new) }
+    ensures { IfOk result
+        (IsPlaceStep spots.now.from stamp entry (AtParent spots.now.to.dir spots.now.to.name) txn.old txn.new) }
 {
     match in_dir(alloc, txn, spots.to.dir)? {
         InDir::Ask(key) => Ok(OpStep::Ask(Ask::Get(key))),
@@ -84,7 +85,8 @@ fn place_in(
     requires writes { txn.old.writes ≡ [] }
     requires entry { IsEntryRead txn.old.reads spots.now.from.dir spots.now.from.name entry }
     requires dir { IsDirRead txn.old.reads spots.now.to.dir }
-    ensures { IfOk result (IsPlaceStep spots.now.from stamp entry (AtParent spots.now.to.dir spots.now.to.name) txn.old txn.new) }
+    ensures { IfOk result
+        (IsPlaceStep spots.now.from stamp entry (AtParent spots.now.to.dir spots.now.to.name) txn.old txn.new) }
 {
     match want_dent(alloc, txn, spots.to.dir, &spots.to.name)? {
         Want::Ask(key) => Ok(OpStep::Ask(Ask::Get(key))),

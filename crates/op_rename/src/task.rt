@@ -52,13 +52,16 @@ fn fault_of(alloc: Global, from: &Place, to: &Place) -> Result<Option<Code>, Mem
 }
 
 impl RenameTask {
-    /// The task of a call that moves an entry. Nothing is asked for yet; a fault in the call's words is known.
+    /// The task of a call that moves an entry. Nothing is asked for yet; a fault in the call's words is
+    /// known.
     pub fn new(alloc: Global, request: &Request, config: &Config) -> Result<RenameTask, Memory>
         requires numbers { IsTrue (is_call (request.now.stamp, request.now.call)) }
         requires call { IsRenameCall request.now.call }
         ensures config { IfOk result (λ task. task.config ≡ config.now) }
         ensures effect { IfOk result (λ task. (T : Tree) → effect_of task T ≡ effect config.now T request.now) }
-        ensures areas { IfOk result (λ task. (T : Tree) → areas_of task T ≡ call_areas config.now T request.now.server request.now.call) }
+        ensures areas { IfOk result
+            (λ task. (T : Tree)
+            → areas_of task T ≡ call_areas config.now T request.now.server request.now.call) }
         ensures ready { IfOk result IsReady }
     {
         match &request.call {
@@ -79,7 +82,9 @@ impl RenameTask {
         requires call { request.now.call ≡ calls.Rename from.now to.now }
         ensures config { IfOk result (λ task. task.config ≡ config.now) }
         ensures effect { IfOk result (λ task. (T : Tree) → effect_of task T ≡ effect config.now T request.now) }
-        ensures areas { IfOk result (λ task. (T : Tree) → areas_of task T ≡ call_areas config.now T request.now.server request.now.call) }
+        ensures areas { IfOk result
+            (λ task. (T : Tree)
+            → areas_of task T ≡ call_areas config.now T request.now.server request.now.call) }
         ensures ready { IfOk result IsReady }
     {
         let fault = fault_of(alloc, from, to)?;

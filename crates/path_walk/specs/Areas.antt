@@ -57,8 +57,10 @@ AreRead reads (area ∷ areas) = IsRead reads area × AreRead reads areas
 -- the ask for what wasn't read yet of an area
 abbrev pub IsAskOf : ReadSet → Area → Ask → Type 0
 IsAskOf reads (OneKey key) (asks.Get other) = (other ≡ key) × IsUnread reads key
-IsAskOf reads (FirstRow lo hi) (asks.Range from to limit) = (from ≡ lo) × (to ≡ hi) × (limit ≡ 1) × (first_read lo hi reads.ranges ≡ None)
-IsAskOf reads (Pages lo hi) (asks.Range from to limit) = (to ≡ hi) × (limit ≡ PAGE_ROWS) × (next_page hi (Some lo) reads.ranges ≡ Some from)
+IsAskOf reads (FirstRow lo hi) (asks.Range from to limit) =
+    (from ≡ lo) × (to ≡ hi) × (limit ≡ 1) × (first_read lo hi reads.ranges ≡ None)
+IsAskOf reads (Pages lo hi) (asks.Range from to limit) =
+    (to ≡ hi) × (limit ≡ PAGE_ROWS) × (next_page hi (Some lo) reads.ranges ≡ Some from)
 IsAskOf reads area ask = ⊥
 
 -- the ask for the first area that wasn't read whole
@@ -82,5 +84,6 @@ IsRangeOf from to lo hi = IsTrue (is_le (key_cmp lo from)) × (to ≡ hi)
 -- the other asks read no rows
 abbrev pub Reaches : List Area → Ask → Type 0
 Reaches areas (asks.Get key) = IsArea (OneKey key) areas
-Reaches areas (asks.Range from to limit) = (lo : List ℕ) × (hi : List ℕ) × IsRangeArea lo hi areas × IsRangeOf from to lo hi
+Reaches areas (asks.Range from to limit) =
+    (lo : List ℕ) × (hi : List ℕ) × IsRangeArea lo hi areas × IsRangeOf from to lo hi
 Reaches areas ask = Unit {0}

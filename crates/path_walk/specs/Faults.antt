@@ -40,4 +40,6 @@ no_name (Err code) = None
 
 -- a rename's second path, and then that both have a name
 abbrev pub move_fault : Place → Place → Option Code
-move_fault from to = first_fault (refusal (path_of to.text)) (first_fault (no_name (path_of from.text)) (no_name (path_of to.text)))
+move_fault from to =
+    first_fault (refusal (path_of to.text))
+    (first_fault (no_name (path_of from.text)) (no_name (path_of to.text)))

@@ -47,7 +47,8 @@ on_words (Ok path) trip = trip path
 
 -- the place's fault, else the call's other one, else the walk of the place
 abbrev pub trip_from : Place → WalkEnd → Option Code → Tree → Trip
-trip_from place end fault T = on_words (path_of place.text) (λ path. unless_fault fault (travel T place.base path end))
+trip_from place end fault T =
+    on_words (path_of place.text) (λ path. unless_fault fault (travel T place.base path end))
 
 -- the way to where an entry is to come
 abbrev pub way_to : Place → Tree → Trip
@@ -90,7 +91,8 @@ if_free (Some id) areas = []
 -- the directory, the name in it, and more by what stands there
 abbrev pub in_named : Tree → ℕ → List ℕ → (Option ℕ → List Area) → List Area
 in_named T dir name more =
-    OneKey (keys.Inode dir) ∷ in_dir (get T.nodes dir) (OneKey (keys.Dent dir name) ∷ more (get T.entries (dir, name)))
+    OneKey (keys.Inode dir)
+    ∷ in_dir (get T.nodes dir) (OneKey (keys.Dent dir name) ∷ more (get T.entries (dir, name)))
 
 -- one key more where no entry stands
 abbrev pub name_at : Key → Tree → Walked → List Area
@@ -128,12 +130,17 @@ unless_dir (Some node) areas = beside_part node.part areas
 
 -- the entry, and the inode that it leads to
 abbrev pub unlinked_at : Tree → Walked → List Area
-unlinked_at T (AtParent dir name) = OneKey (keys.Dent dir name) ∷ if_taken (get T.entries (dir, name)) (λ id. unless_dir (get T.nodes id) (OneKey (keys.Inode id) ∷ []))
+unlinked_at T (AtParent dir name) =
+    OneKey (keys.Dent dir name)
+    ∷ if_taken (get T.entries (dir, name)) (λ id. unless_dir (get T.nodes id) (OneKey (keys.Inode id) ∷ []))
 unlinked_at T _ = []
 
 -- the entry, and whether one lies in the directory that it leads to
 abbrev pub emptied_at : Tree → Walked → List Area
-emptied_at T (AtParent dir name) = OneKey (keys.Dent dir name) ∷ if_taken (get T.entries (dir, name)) (λ id. in_dir (get T.nodes id) (FirstRow (dir_prefix id) (raised (dir_prefix id)) ∷ []))
+emptied_at T (AtParent dir name) =
+    OneKey (keys.Dent dir name)
+    ∷ if_taken (get T.entries (dir, name))
+    (λ id. in_dir (get T.nodes id) (FirstRow (dir_prefix id) (raised (dir_prefix id)) ∷ []))
 emptied_at T _ = []
 
 -- ---- an entry moved
@@ -143,7 +150,8 @@ abbrev pub dir_moved : Tree → ℕ → Option ℕ → List Area
 dir_moved T id None = OneKey (keys.Inode id) ∷ []
 dir_moved T id (Some old) =
     in_dir (get T.nodes old)
-    (FirstRow (dir_prefix old) (raised (dir_prefix old)) ∷ (if is_empty_dir T old then OneKey (keys.Inode id) ∷ [] else []))
+    (FirstRow (dir_prefix old) (raised (dir_prefix old))
+    ∷ (if is_empty_dir T old then OneKey (keys.Inode id) ∷ [] else []))
 
 -- of another node nothing is read but what it takes the place of
 abbrev pub other_moved : Tree → Option ℕ → List Area
@@ -152,7 +160,8 @@ other_moved T (Some old) = unless_dir (get T.nodes old) (OneKey (keys.Inode old)
 
 -- a directory's way up comes first, and ends it where it would come to lie in itself
 abbrev pub kind_moved : Tree → Kind → ℕ → ℕ → Option ℕ → List Area
-kind_moved T kinds.Dir id dir taken = climbed T id dir ++ (if is_below T id dir then [] else dir_moved T id taken)
+kind_moved T kinds.Dir id dir taken =
+    climbed T id dir ++ (if is_below T id dir then [] else dir_moved T id taken)
 kind_moved T kinds.File id dir taken = other_moved T taken
 kind_moved T kinds.Link id dir taken = other_moved T taken
 
@@ -175,11 +184,13 @@ if_node None at = []
 if_node (Some node) at = at node
 
 abbrev pub carried : Tree → Place → ℕ → List Area
-carried T to id = if_node (get T.nodes id) (λ node. along T to Parent None (placed_at T (kind_of_part node.part) id))
+carried T to id =
+    if_node (get T.nodes id) (λ node. along T to Parent None (placed_at T (kind_of_part node.part) id))
 
 -- where the first walk ends: the entry, and the second walk
 abbrev pub renamed_at : Tree → Place → Walked → List Area
-renamed_at T to (AtParent dir name) = OneKey (keys.Dent dir name) ∷ if_taken (get T.entries (dir, name)) (carried T to)
+renamed_at T to (AtParent dir name) =
+    OneKey (keys.Dent dir name) ∷ if_taken (get T.entries (dir, name)) (carried T to)
 renamed_at T to _ = []
 
 -- ---- the calls
@@ -193,7 +204,8 @@ call_areas C T server (calls.Mkdir place mode layout) = makes C T server place (
 call_areas C T server (calls.Create place mode layout) = makes C T server place (new_file mode layout)
 call_areas C T server (calls.Symlink place target) = makes C T server place (new_link target)
 call_areas C T server (calls.Setattr place changes) = along T place Follow None inode_at
-call_areas C T server (calls.Link from to) = along T from NoFollow (refusal (path_of to.text)) (joined_at T to)
+call_areas C T server (calls.Link from to) =
+    along T from NoFollow (refusal (path_of to.text)) (joined_at T to)
 call_areas C T server (calls.Unlink place) = along T place Parent None (unlinked_at T)
 call_areas C T server (calls.Rmdir place) = along T place Parent None (emptied_at T)
 call_areas C T server (calls.Rename from to) = along T from Parent (move_fault from to) (renamed_at T to)
@@ -209,4 +221,5 @@ abbrev pub footprint : Settings → Tree → Request → List Area
 footprint C T q =
     if is_query q.call
     then call_areas C T q.server q.call
-    else OneKey (keys.Idem q.client) ∷ if_new (get T.kept q.client.0) q.number (call_areas C T q.server q.call)
+    else OneKey (keys.Idem q.client)
+    ∷ if_new (get T.kept q.client.0) q.number (call_areas C T q.server q.call)

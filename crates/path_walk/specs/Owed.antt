@@ -31,24 +31,30 @@ use Rattle.path_walk.specs.Sound.{WritesChange}
 
 -- in all well-formed rows that agree with the reads, the effect leaves the tree and gives the reply
 abbrev pub IsJustified : Settings → (Tree → Effect) → ReadSet → Reply → Type 0
-IsJustified C effect reads reply = (S : TypedRows) → IsWellFormed C S → Agrees S reads → effect (tree_of S) ≡ Leaves reply
+IsJustified C effect reads reply =
+    (S : TypedRows) → IsWellFormed C S → Agrees S reads → effect (tree_of S) ≡ Leaves reply
 
 -- the client's kept reply is absent, or has a smaller number
 abbrev pub IsKeptBefore : ReadSet → Request → Type 0
-IsKeptBefore reads q = (S : TypedRows) → Agrees S reads → MatchOption (get S.kept q.client.0) ⊤ (λ kept. kept.number < q.number)
+IsKeptBefore reads q =
+    (S : TypedRows) → Agrees S reads → MatchOption (get S.kept q.client.0) ⊤ (λ kept. kept.number < q.number)
 
 -- ---- a commit, before the kept reply is added
 
--- the writes lead all of them to well-formed rows, whose tree the effect makes with the reply; a settling does at the reply's length
+-- the writes lead all of them to well-formed rows, whose tree the effect makes with the reply; a settling
+-- does at the reply's length
 abbrev pub IsSoundEffect : Settings → (Tree → Effect) → ReadSet → List Write → Reply → Type 0
 IsSoundEffect C effect reads writes reply =
-    (S : TypedRows) → IsWellFormed C S → Agrees S reads → (U : TypedRows) × LeadsTo writes S U × IsWellFormed C U × (at_length (settled_by reply) (effect (tree_of S)) ≡ Makes (tree_of U) reply)
+    (S : TypedRows) → IsWellFormed C S → Agrees S reads → (U : TypedRows) × LeadsTo writes S U
+    × IsWellFormed C U × (at_length (settled_by reply) (effect (tree_of S)) ≡ Makes (tree_of U) reply)
 
 -- no kept reply is written, a reply's numbers are in their ranges, and no node was asked
-pub record IsOpCommit (C : Settings) (effect : Tree → Effect) (t : Transaction) (reply : Reply) (asked : List Asked) : Type 0 where
+pub record IsOpCommit (C : Settings) (effect : Tree → Effect) (t : Transaction) (reply : Reply)
+    (asked : List Asked) : Type 0 where
   pub sound : IsSoundEffect C effect t.reads t.writes reply
   pub writes : AreWrites t.writes
-  pub no_kept : (client : ClientId) → client.0 < 2 ^ 128 → written_at t.writes (spelled_key (keys.Idem client)) ≡ None
+  pub no_kept : (client : ClientId) → client.0 < 2 ^ 128
+      → written_at t.writes (spelled_key (keys.Idem client)) ≡ None
   pub changes : WritesChange C t.reads t.writes
   pub reply_fits : IsTrue (is_reply reply)
   pub none_asked : asked ≡ []
@@ -63,11 +69,13 @@ IsNewAsk reads ask = ⊥
 
 -- in all well-formed rows that agree with the reads, the ask is the next of these areas
 abbrev pub MayAsk : Settings → (Tree → List Area) → ReadSet → Ask → Type 0
-MayAsk C areas reads ask = (S : TypedRows) → IsWellFormed C S → Agrees S reads → IsNextOf reads (areas (tree_of S)) ask
+MayAsk C areas reads ask =
+    (S : TypedRows) → IsWellFormed C S → Agrees S reads → IsNextOf reads (areas (tree_of S)) ask
 
 -- in all of them the areas were read whole
 abbrev pub HasRead : Settings → (Tree → List Area) → ReadSet → Type 0
-HasRead C areas reads = (S : TypedRows) → IsWellFormed C S → Agrees S reads → AreRead reads (areas (tree_of S))
+HasRead C areas reads =
+    (S : TypedRows) → IsWellFormed C S → Agrees S reads → AreRead reads (areas (tree_of S))
 
 -- ---- a step
 
@@ -75,15 +83,18 @@ HasRead C areas reads = (S : TypedRows) → IsWellFormed C S → Agrees S reads 
 abbrev pub IsOpStep : Settings → (Tree → List Area) → (Tree → Effect) → Transaction → OpStep → Type 0
 IsOpStep C areas effect t (steps.Ask ask) = IsNewAsk t.reads ask × MayAsk C areas t.reads ask
 IsOpStep C areas effect t (steps.Reply reply) = HasRead C areas t.reads × IsJustified C effect t.reads reply
-IsOpStep C areas effect t (steps.Commit reply asked) = HasRead C areas t.reads × IsOpCommit C effect t reply asked
+IsOpStep C areas effect t (steps.Commit reply asked) =
+    HasRead C areas t.reads × IsOpCommit C effect t reply asked
 
 -- a step that is no commit has written nothing
 abbrev pub LeavesWrites : OpStep → List Write → Type 0
 LeavesWrites (steps.Commit reply asked) writes = Unit {0}
 LeavesWrites step writes = writes ≡ []
 
--- a step from one transaction to another: what was read stays, and the step is one of these areas and this effect
-pub record HasDone (C : Settings) (areas : Tree → List Area) (effect : Tree → Effect) (before after : Transaction) (s : OpStep) : Type 0 where
+-- a step from one transaction to another: what was read stays, and the step is one of these areas and this
+-- effect
+pub record HasDone (C : Settings) (areas : Tree → List Area) (effect : Tree → Effect)
+    (before after : Transaction) (s : OpStep) : Type 0 where
   pub reads : after.reads ≡ before.reads
   pub snapshot : after.snapshot ≡ before.snapshot
   pub versions : after.versions ≡ before.versions
@@ -94,15 +105,18 @@ pub record HasDone (C : Settings) (areas : Tree → List Area) (effect : Tree �
 
 -- the effect is what it was
 abbrev pub KeepsEffect : Settings → (Tree → Effect) → (Tree → Effect) → ReadSet → Type 0
-KeepsEffect C old new reads = (S : TypedRows) → IsWellFormed C S → Agrees S reads → new (tree_of S) ≡ old (tree_of S)
+KeepsEffect C old new reads =
+    (S : TypedRows) → IsWellFormed C S → Agrees S reads → new (tree_of S) ≡ old (tree_of S)
 
 -- some of the first areas were read, and these are left
 abbrev pub KeepsAreas : Settings → (Tree → List Area) → (Tree → List Area) → ReadSet → Type 0
 KeepsAreas C old new reads =
-    (S : TypedRows) → IsWellFormed C S → Agrees S reads → (seen : List Area) × AreRead reads seen × (old (tree_of S) ≡ seen ++ new (tree_of S))
+    (S : TypedRows) → IsWellFormed C S → Agrees S reads → (seen : List Area) × AreRead reads seen
+    × (old (tree_of S) ≡ seen ++ new (tree_of S))
 
 -- a task's step: it comes to the same, reads what is left, and makes a step of that
-pub record HasStepped (C : Settings) (old_areas new_areas : Tree → List Area) (old_effect new_effect : Tree → Effect) (before after : Transaction) (s : OpStep) : Type 0 where
+pub record HasStepped (C : Settings) (old_areas new_areas : Tree → List Area)
+    (old_effect new_effect : Tree → Effect) (before after : Transaction) (s : OpStep) : Type 0 where
   pub effect : KeepsEffect C old_effect new_effect before.reads
   pub areas : KeepsAreas C old_areas new_areas before.reads
   pub done : HasDone C new_areas new_effect before after s

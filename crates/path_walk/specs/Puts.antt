@@ -32,17 +32,21 @@ abbrev pub holds_reply : Key → Bool
 holds_reply (keys.Idem client) = true
 holds_reply key = false
 
--- a valid key of no kept reply; in all well-formed rows that agree with the reads, a value that it may have and hasn't yet
+-- a valid key of no kept reply; in all well-formed rows that agree with the reads, a value that it may have
+-- and hasn't yet
 pub record IsPut (C : Settings) (reads : ReadSet) (key : Key) (value : Option Value) : Type 0 where
   pub valid : IsValidKey key
   pub no_kept : holds_reply key ≡ false
-  pub changes : (S : TypedRows) → IsWellFormed C S → Agrees S reads → IsValueOf key value × (lookup S key ≢ value)
+  pub changes : (S : TypedRows) → IsWellFormed C S → Agrees S reads → IsValueOf key value
+      × (lookup S key ≢ value)
 
 abbrev pub ArePuts : Settings → ReadSet → List (Key × Option Value) → Type 0
 ArePuts C reads [] = Unit {0}
 ArePuts C reads (put ∷ puts) = IsPut C reads put.0 put.1 × ArePuts C reads puts
 
--- in all well-formed rows that agree with the reads, what is put makes well-formed rows, whose tree the effect makes with the reply
+-- in all well-formed rows that agree with the reads, what is put makes well-formed rows, whose tree the
+-- effect makes with the reply
 abbrev pub MakesPuts : Settings → (Tree → Effect) → ReadSet → List (Key × Option Value) → Reply → Type 0
 MakesPuts C effect reads puts reply =
-    (S : TypedRows) → IsWellFormed C S → Agrees S reads → IsWellFormed C (with_puts S puts) × (at_length (settled_by reply) (effect (tree_of S)) ≡ Makes (tree_of (with_puts S puts)) reply)
+    (S : TypedRows) → IsWellFormed C S → Agrees S reads → IsWellFormed C (with_puts S puts)
+    × (at_length (settled_by reply) (effect (tree_of S)) ≡ Makes (tree_of (with_puts S puts)) reply)

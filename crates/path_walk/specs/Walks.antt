@@ -48,10 +48,12 @@ abbrev pub AreSeen : ReadSet → List Visit → Type 0
 AreSeen reads [] = Unit {0}
 AreSeen reads (visit ∷ visits) = IsKeyRead reads (key_of_visit visit) × AreSeen reads visits
 
--- in all well-formed rows that agree with the reads: what was looked at was read, and the rest is the same way
+-- in all well-formed rows that agree with the reads: what was looked at was read, and the rest is the same
+-- way
 abbrev pub KeepsTrip : (Tree → Trip) → (Tree → Trip) → ReadSet → Type 0
 KeepsTrip old new reads =
-    (C : Settings) (S : TypedRows) → IsWellFormed C S → Agrees S reads → (visits : List Visit) × AreSeen reads visits × (old (tree_of S) ≡ after_visits visits (new (tree_of S)))
+    (C : Settings) (S : TypedRows) → IsWellFormed C S → Agrees S reads → (visits : List Visit)
+    × AreSeen reads visits × (old (tree_of S) ≡ after_visits visits (new (tree_of S)))
 
 -- in all of them the way ends so, and all that is looked at on it was read
 abbrev pub HasEnd : (Tree → Trip) → ReadSet → Walked → Type 0
@@ -61,7 +63,8 @@ HasEnd trip reads end = KeepsTrip trip (λ T. stay end) reads
 abbrev pub LooksAt : (Tree → Trip) → ReadSet → Key → Type 0
 LooksAt trip reads key =
     (C : Settings) (S : TypedRows) → IsWellFormed C S → Agrees S reads
-    → (visits : List Visit) × (visit : Visit) × (rest : Trip) × AreSeen reads visits × (key_of_visit visit ≡ key) × (trip (tree_of S) ≡ after_visits visits (visiting visit rest))
+    → (visits : List Visit) × (visit : Visit) × (rest : Trip) × AreSeen reads visits
+    × (key_of_visit visit ≡ key) × (trip (tree_of S) ≡ after_visits visits (visiting visit rest))
 
 -- a key that wasn't read, and that is looked at next
 abbrev pub IsTripAsk : (Tree → Trip) → ReadSet → Ask → Type 0
@@ -80,7 +83,8 @@ IsWalkStep (steps.Refused code) w reads = HasEnd (trip_of w) reads (walked.Stopp
 
 -- the walk of the path that the place's text reads as
 abbrev pub IsStart : Walk → Place → WalkEnd → Type 0
-IsStart w place end = (path : Path) × (path_of place.text ≡ Ok path) × ((T : Tree) → trip_of w T ≡ travel T place.base path end)
+IsStart w place end =
+    (path : Path) × (path_of place.text ≡ Ok path) × ((T : Tree) → trip_of w T ≡ travel T place.base path end)
 
 -- the refusal that an error stands for: want of memory stands for none
 abbrev pub walk_refusal : WalkError → Option Code
@@ -111,7 +115,8 @@ pub record IsAtLink (w : Walk) (reads : ReadSet) (id : ℕ) : Type 0 where
   pub more : is_last_of_parent w.end tail ≡ false
   pub followed : is_last_unfollowed w.end tail ≡ false
   pub seen : IsKeyRead reads (keys.Dent w.here name)
-  pub entry : (S : TypedRows) → Agrees S reads → get S.dents (w.here, name) ≡ Some (record { inode = id; kind = kinds.Link })
+  pub entry : (S : TypedRows) → Agrees S reads
+      → get S.dents (w.here, name) ≡ Some (record { inode = id; kind = kinds.Link })
 
 -- on at the names of the target and those that are left, with a link less to follow
 pub record IsOnPath (old new : Walk) (path : Path) : Type 0 where
@@ -123,6 +128,7 @@ pub record IsOnPath (old new : Walk) (path : Path) : Type 0 where
 
 -- the target's fault, or on at its path
 abbrev pub IsFollowed : Move → Walk → Walk → List ℕ → Type 0
-IsFollowed (Stop step) old new target = (code : Code) × (path_of target ≡ Err code) × (step ≡ steps.Refused code) × (new ≡ old)
+IsFollowed (Stop step) old new target =
+    (code : Code) × (path_of target ≡ Err code) × (step ≡ steps.Refused code) × (new ≡ old)
 IsFollowed Down old new target = ⊥
 IsFollowed Followed old new target = (path : Path) × (path_of target ≡ Ok path) × IsOnPath old new path

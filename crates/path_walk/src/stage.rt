@@ -36,7 +36,8 @@ pub fn forget(_answer: Answer) {}
 
 /// What a walk's step says.
 fn reached_by(step: WalkStep) -> Reached
-    ensures { (walk : Walk) (reads : ReadSet) → IsWalkStep step walk reads → IsReached result (trip_of walk) reads }
+    ensures { (walk : Walk) (reads : ReadSet) → IsWalkStep step walk reads
+        → IsReached result (trip_of walk) reads }
 {
     match step {
         WalkStep::Ask(ask) => Reached::Ask(ask),

@@ -180,7 +180,8 @@ impl Walk {
     #[tactic(auto, using(crate::proofs::WalkLaws::keeps_self))]
     fn look_at_base(&mut self, alloc: Global, txn: &Txn) -> Result<Option<WalkStep>, Memory>
         ensures keeps { OnOk result (KeepsTrip (trip_of self.old) (trip_of self.new) txn.now.reads) }
-        ensures step { IfOk result (λ o. MatchOption o (self.new.at_base ≡ false) (λ s. IsWalkStep s self.new txn.now.reads)) }
+        ensures step { IfOk result
+            (λ o. MatchOption o (self.new.at_base ≡ false) (λ s. IsWalkStep s self.new txn.now.reads)) }
     {
         if !self.at_base {
             return Ok(None);
@@ -203,7 +204,9 @@ impl Walk {
         requires { self.old.at_base ≡ false }
         ensures base { self.new.at_base ≡ false }
         ensures keeps { OnOk result (KeepsTrip (trip_of self.old) (trip_of self.new) txn.now.reads) }
-        ensures stop { IfOk result (λ o. MatchOption o (self.new.links + 1 ≡ self.old.links) (λ s. IsWalkStep s self.new txn.now.reads)) }
+        ensures stop { IfOk result
+            (λ o. MatchOption o (self.new.links + 1 ≡ self.old.links)
+            (λ s. IsWalkStep s self.new txn.now.reads)) }
     {
         loop {
             match self.step(alloc, txn)? {

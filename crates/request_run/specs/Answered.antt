@@ -23,19 +23,26 @@ abbrev pub MayAnswer : Settings → List Entry → ℕ → Ask → Type 0
 MayAnswer C journal snapshot asks.Begin = Unit {0}
 MayAnswer C journal snapshot (asks.Get key) = snapshot ≤ length journal
 MayAnswer C journal snapshot (asks.Range lo hi limit) = snapshot ≤ length journal
-MayAnswer C journal snapshot (asks.Commit entry) = (snapshot ≤ length journal) × IsSoundEntry C entry × bytes.Agrees (journal_rows C journal snapshot) entry.reads
+MayAnswer C journal snapshot (asks.Commit entry) =
+    (snapshot ≤ length journal) × IsSoundEntry C entry
+    × bytes.Agrees (journal_rows C journal snapshot) entry.reads
 MayAnswer C journal snapshot ask = ⊥
 
 -- the answer is the store's: the journal's length, what stood at the snapshot, or what came of the commit
 abbrev pub IsAnswer : Settings → List Entry → List Entry → ℕ → Ask → Answer → Type 0
 IsAnswer C old new snapshot asks.Begin (answers.Begun version) = (new ≡ old) × (version ≡ length old)
 IsAnswer C old new snapshot (asks.Get key) (answers.Got got) =
-    (new ≡ old) × (got.value ≡ value_at_key (journal_rows C old snapshot) (spelled_key key)) × (got.version ≡ last_writer writes_of old snapshot (spelled_key key))
-IsAnswer C old new snapshot (asks.Range lo hi limit) (answers.Rows rows) = (new ≡ old) × (rows ≡ rows_between (journal_rows C old snapshot) lo hi limit)
+    (new ≡ old) × (got.value ≡ value_at_key (journal_rows C old snapshot) (spelled_key key))
+    × (got.version ≡ last_writer writes_of old snapshot (spelled_key key))
+IsAnswer C old new snapshot (asks.Range lo hi limit) (answers.Rows rows) =
+    (new ≡ old) × (rows ≡ rows_between (journal_rows C old snapshot) lo hi limit)
 IsAnswer C old new snapshot (asks.Commit entry) (answers.Committed version) =
-    (new ≡ old ++ entry ∷ []) × (version ≡ length old + 1) × (first_later writes_of old snapshot entry.reads ≡ None)
-IsAnswer C old new snapshot (asks.Commit entry) (answers.Conflict version key) = (new ≡ old) × (first_later writes_of old snapshot entry.reads ≡ Some (version, spelled_key key))
-IsAnswer C old new snapshot (asks.Commit entry) answers.StoreFull = (new ≡ old) × (first_later writes_of old snapshot entry.reads ≡ None) × (length old ≡ JOURNAL_ENTRIES)
+    (new ≡ old ++ entry ∷ []) × (version ≡ length old + 1)
+    × (first_later writes_of old snapshot entry.reads ≡ None)
+IsAnswer C old new snapshot (asks.Commit entry) (answers.Conflict version key) =
+    (new ≡ old) × (first_later writes_of old snapshot entry.reads ≡ Some (version, spelled_key key))
+IsAnswer C old new snapshot (asks.Commit entry) answers.StoreFull =
+    (new ≡ old) × (first_later writes_of old snapshot entry.reads ≡ None) × (length old ≡ JOURNAL_ENTRIES)
 IsAnswer C old new snapshot ask answer = ⊥
 
 -- a conflict is told with a key of the store
@@ -60,7 +67,8 @@ IsSpelled (asks.Get key) = IsSpellable key
 IsSpelled ask = Unit {0}
 
 -- the store answers the ask of a task, which asks on
-pub record IsExchange (C : Settings) (old new : List Entry) (task : TaskView) (ask : Ask) (after : TaskView) (following : Ask) : Type 0 where
+pub record IsExchange (C : Settings) (old new : List Entry) (task : TaskView) (ask : Ask) (after : TaskView)
+    (following : Ask) : Type 0 where
   pub answer : Answer
   pub key : HasKey answer
   pub spelled : IsSpelled ask

@@ -13,4 +13,5 @@ with_entry store entry = record store { journal = store.journal ++ record { entr
 
 -- one turn of a client, of the store alone: it is as it was, or has one entry more, which is the client's
 abbrev pub IsGrowth : Store MetaEntry → Store MetaEntry → ClientId → Type 0
-IsGrowth before after client = (after ≡ before) ⊎ ((entry : Entry) × (after ≡ with_entry before entry) × (entry.request.client ≡ client))
+IsGrowth before after client =
+    (after ≡ before) ⊎ ((entry : Entry) × (after ≡ with_entry before entry) × (entry.request.client ≡ client))

@@ -21,10 +21,14 @@ MayAnswerAtNode ask = ⊥
 
 -- the answer is that of a node which had done the old history, to a request of this client and number
 abbrev pub IsNodeAnswer : List Done → List Done → ClientId → ℕ → Ask → Answer → Type 0
-IsNodeAnswer old new client number (asks.Query node inode) (answers.Ended asked) = (new ≡ old) × (asked.node ≡ node) × (asked.front ≡ length old) × IsLastChunk old inode asked.last
+IsNodeAnswer old new client number (asks.Query node inode) (answers.Ended asked) =
+    (new ≡ old) × (asked.node ≡ node) × (asked.front ≡ length old) × IsLastChunk old inode asked.last
 IsNodeAnswer old new client number (asks.SetEnd node inode keep rest holds) (answers.Did front) =
-    (new ≡ old ++ done.SetEnd (record { inode = inode; keep = keep; rest = rest; holds = holds; client = client; number = number }) ∷ []) × (front ≡ length new) × (removal_of old inode ≡ None) × (is_full old ≡ false)
+    (new ≡ old ++ done.SetEnd
+    (record { inode = inode; keep = keep; rest = rest; holds = holds; client = client; number = number })
+    ∷ []) × (front ≡ length new) × (removal_of old inode ≡ None) × (is_full old ≡ false)
 IsNodeAnswer old new client number (asks.SetEnd node inode keep rest holds) (answers.NodeRefused (errors.Removed version)) = (new ≡ old) × (removal_of old inode ≡ Some version)
 IsNodeAnswer old new client number (asks.SetEnd node inode keep rest holds) (answers.NodeRefused errors.Full) = (new ≡ old) × (removal_of old inode ≡ None) × (is_full old ≡ true)
-IsNodeAnswer old new client number (asks.Remove node inode version) (answers.Did front) = (new ≡ after_removal old inode version) × (front ≡ length new)
+IsNodeAnswer old new client number (asks.Remove node inode version) (answers.Did front) =
+    (new ≡ after_removal old inode version) × (front ≡ length new)
 IsNodeAnswer old new client number ask answer = ⊥

@@ -33,28 +33,38 @@ use Rattle.run_record.specs.Touched.{AreRangesTouched}
 -- each key is one of the areas', its numbers fit for its bytes
 abbrev pub AreSpelledIn : List Area → List KeyRead → Type 0
 AreSpelledIn areas [] = Unit {0}
-AreSpelledIn areas (read ∷ reads) = ((key : Key) × IsSpellable key × (read.key ≡ spelled_key key) × IsArea (OneKey key) areas) × AreSpelledIn areas reads
+AreSpelledIn areas (read ∷ reads) =
+    ((key : Key) × IsSpellable key × (read.key ≡ spelled_key key) × IsArea (OneKey key) areas)
+    × AreSpelledIn areas reads
 
 -- what was read lies in the footprint, in all well-formed rows that agree with it
 abbrev pub IsCovered : Settings → Request → ReadSet → Type 0
 IsCovered C request reads =
-    (S : TypedRows) → IsWellFormed C S → Agrees S reads → AreSpelledIn (footprint C (tree_of S) request) reads.keys × AreRangesTouched (footprint C (tree_of S) request) reads.ranges
+    (S : TypedRows) → IsWellFormed C S → Agrees S reads
+    → AreSpelledIn (footprint C (tree_of S) request) reads.keys
+    × AreRangesTouched (footprint C (tree_of S) request) reads.ranges
 
 -- so it was of each entry, and the footprint was read whole
 abbrev pub AreCovered : Settings → List Entry → Type 0
-AreCovered C journal = (place : ℕ) (entry : Entry) → EntryAt journal place entry → IsCovered C entry.request entry.reads × HasRead C (λ T. footprint C T entry.request) entry.reads
+AreCovered C journal =
+    (place : ℕ) (entry : Entry) → EntryAt journal place entry → IsCovered C entry.request entry.reads
+    × HasRead C (λ T. footprint C T entry.request) entry.reads
 
 -- ---- a client's entries
 
 abbrev pub EachOf : List Entry → ClientId → (ℕ → Entry → Type 0) → Type 0
-EachOf journal client holds = (place : ℕ) (entry : Entry) → EntryAt journal place entry → entry.request.client ≡ client → holds place entry
+EachOf journal client holds =
+    (place : ℕ) (entry : Entry) → EntryAt journal place entry → entry.request.client ≡ client
+    → holds place entry
 
 -- each is another client's
 abbrev pub AreOthers : List Entry → ClientId → Type 0
-AreOthers journal client = (place : ℕ) (entry : Entry) → EntryAt journal place entry → entry.request.client ≢ client
+AreOthers journal client =
+    (place : ℕ) (entry : Entry) → EntryAt journal place entry → entry.request.client ≢ client
 
 abbrev pub AreEarlier : List Entry → Request → Type 0
-AreEarlier journal request = EachOf journal request.client (λ place entry. entry.request.number < request.number)
+AreEarlier journal request =
+    EachOf journal request.client (λ place entry. entry.request.number < request.number)
 
 -- an entry of the request's client is of that request, and was made from this version on
 pub record IsOwn (request : Request) (floor place : ℕ) (entry : Entry) : Type 0 where
@@ -67,17 +77,22 @@ pub record IsOwn (request : Request) (floor place : ℕ) (entry : Entry) : Type 
 
 -- ---- between two asks
 
--- the call began with the front, and has met these conflicts: behind the last one lies what its client has made since
-pub record HasMet (C : Settings) (journal : List Entry) (request : Request) (front : ℕ) (conflicts : List (ℕ × Key)) : Type 0 where
+-- the call began with the front, and has met these conflicts: behind the last one lies what its client has
+-- made since
+pub record HasMet (C : Settings) (journal : List Entry) (request : Request) (front : ℕ)
+    (conflicts : List (ℕ × Key)) : Type 0 where
   pub small : request.client.0 < 2 ^ 128
   pub front_in : front ≤ length journal
-  pub before : EachOf journal request.client (λ place entry. place < front → entry.request.number < request.number)
-  pub since : EachOf journal request.client (λ place entry. front ≤ place → IsOwn request (last_version front conflicts) place entry)
+  pub before : EachOf journal request.client
+      (λ place entry. place < front → entry.request.number < request.number)
+  pub since : EachOf journal request.client
+      (λ place entry. front ≤ place → IsOwn request (last_version front conflicts) place entry)
   pub conflicts_are : AreConflicts C journal request front conflicts
   pub last : last_version front conflicts ≤ length journal
 
 -- an attempt that has begun at the snapshot, with what it has read
-pub record IsBegun (C : Settings) (journal : List Entry) (request : Request) (floor snapshot : ℕ) (reads : ReadSet) : Type 0 where
+pub record IsBegun (C : Settings) (journal : List Entry) (request : Request) (floor snapshot : ℕ)
+    (reads : ReadSet) : Type 0 where
   pub from : floor ≤ snapshot
   pub within : snapshot ≤ length journal
   pub agrees : bytes.Agrees (journal_rows C journal snapshot) reads
@@ -86,20 +101,29 @@ pub record IsBegun (C : Settings) (journal : List Entry) (request : Request) (fl
   pub own : EachOf journal request.client (λ place entry. place < snapshot)
 
 -- the task is the request's; an attempt that has begun isn't one too many
-pub record IsServed (C : Settings) (attempts : ℕ) (journal : List Entry) (request : Request) (front : ℕ) (task : TaskView) : Type 0 where
+pub record IsServed (C : Settings) (attempts : ℕ) (journal : List Entry) (request : Request) (front : ℕ)
+    (task : TaskView) : Type 0 where
   pub config : task.config ≡ C
   pub attempts_are : task.attempts ≡ attempts
   pub request_is : task.request ≡ request
   pub met : HasMet C journal request front task.conflicts
-  pub begun : task.begun ≡ true → IsBegun C journal request (last_version front task.conflicts) task.snapshot task.reads × (length task.conflicts < attempts)
+  pub begun : task.begun ≡ true
+      → IsBegun C journal request (last_version front task.conflicts) task.snapshot task.reads
+      × (length task.conflicts < attempts)
 
 -- what the ask that waits for its answer owes
 abbrev pub IsPending : Settings → TaskView → Ask → Type 0
-IsPending C task asks.Begin = (task.waiting ≡ waits.Beginning) × (task.begun ≡ false) × (length task.conflicts < task.attempts)
-IsPending C task (asks.Get key) = (task.waiting ≡ waits.Reading (asks.Get key)) × (task.begun ≡ true) × MayAsk C (λ T. footprint C T task.request) task.reads (asks.Get key)
-IsPending C task (asks.Range lo hi limit) = (task.waiting ≡ waits.Reading (asks.Range lo hi limit)) × (task.begun ≡ true) × MayAsk C (λ T. footprint C T task.request) task.reads (asks.Range lo hi limit)
+IsPending C task asks.Begin =
+    (task.waiting ≡ waits.Beginning) × (task.begun ≡ false) × (length task.conflicts < task.attempts)
+IsPending C task (asks.Get key) =
+    (task.waiting ≡ waits.Reading (asks.Get key)) × (task.begun ≡ true)
+    × MayAsk C (λ T. footprint C T task.request) task.reads (asks.Get key)
+IsPending C task (asks.Range lo hi limit) =
+    (task.waiting ≡ waits.Reading (asks.Range lo hi limit)) × (task.begun ≡ true)
+    × MayAsk C (λ T. footprint C T task.request) task.reads (asks.Range lo hi limit)
 IsPending C task (asks.Commit entry) =
-    (task.waiting ≡ waits.Committing entry.reply) × (task.begun ≡ true) × (entry.request ≡ task.request) × (entry.reads ≡ task.reads) × IsSoundEntry C entry
+    (task.waiting ≡ waits.Committing entry.reply) × (task.begun ≡ true) × (entry.request ≡ task.request)
+    × (entry.reads ≡ task.reads) × IsSoundEntry C entry
     × HasRead C (λ T. footprint C T task.request) task.reads
 IsPending C task ask = ⊥
 
@@ -107,9 +131,12 @@ IsPending C task ask = ⊥
 
 -- the entry that the outcome names was made where the request was sent
 abbrev pub IsMadeAt : List Entry → ℕ → Outcome → Type 0
-IsMadeAt journal server outcome = outcome.committed ≡ true → (place : ℕ) (entry : Entry) → EntryAt journal place entry → outcome.version ≡ place + 1 → entry.request.server ≡ server
+IsMadeAt journal server outcome =
+    outcome.committed ≡ true → (place : ℕ) (entry : Entry) → EntryAt journal place entry
+    → outcome.version ≡ place + 1 → entry.request.server ≡ server
 
-pub record CameTo (C : Settings) (attempts : ℕ) (journal : List Entry) (request : Request) (front : ℕ) (outcome : Outcome) : Type 0 where
+pub record CameTo (C : Settings) (attempts : ℕ) (journal : List Entry) (request : Request) (front : ℕ)
+    (outcome : Outcome) : Type 0 where
   pub outcome_is : IsOutcome C journal request front outcome
   pub made_at : IsMadeAt journal request.server outcome
   pub may : MayTell request.call outcome.reply
@@ -118,9 +145,12 @@ pub record CameTo (C : Settings) (attempts : ℕ) (journal : List Entry) (reques
   pub above : front ≤ outcome.version
   pub within : seen_by outcome ≤ length journal
   -- the outcome names each entry that the client has made since the front
-  pub only : EachOf journal request.client (λ place entry. front ≤ place → (outcome.committed ≡ true) × (outcome.version ≡ place + 1))
+  pub only : EachOf journal request.client
+      (λ place entry. front ≤ place → (outcome.committed ≡ true) × (outcome.version ≡ place + 1))
 
 -- after an answer: the next ask waits, or there is an outcome
 abbrev pub IsReady : Settings → ℕ → List Entry → Request → ℕ → TaskView → Ask → Type 0
-IsReady C attempts journal request front task asks.Done = (outcome : Outcome) × (task.outcome ≡ Some outcome) × CameTo C attempts journal request front outcome
-IsReady C attempts journal request front task ask = IsServed C attempts journal request front task × IsPending C task ask
+IsReady C attempts journal request front task asks.Done =
+    (outcome : Outcome) × (task.outcome ≡ Some outcome) × CameTo C attempts journal request front outcome
+IsReady C attempts journal request front task ask =
+    IsServed C attempts journal request front task × IsPending C task ask

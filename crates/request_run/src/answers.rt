@@ -73,7 +73,9 @@ fn get(
 ) -> Result<Answer, Memory>
     requires open { IsOpen store.now }
     requires snapshot { snapshot ≤ length (entries_of store.now.journal) }
-    ensures answer { IfOk result (λ a. IsAnswer store.now.config (entries_of store.now.journal) (entries_of store.now.journal) snapshot (Ask.Get key.now) a) }
+    ensures answer { IfOk result
+        (λ a. IsAnswer store.now.config (entries_of store.now.journal) (entries_of store.now.journal) snapshot
+        (Ask.Get key.now) a) }
     ensures spelled { IsSpellable key.now }
 {
     spellable(key);
@@ -91,7 +93,9 @@ fn range(
 ) -> Result<Answer, Memory>
     requires open { IsOpen store.now }
     requires snapshot { snapshot ≤ length (entries_of store.now.journal) }
-    ensures { IfOk result (λ a. IsAnswer store.now.config (entries_of store.now.journal) (entries_of store.now.journal) snapshot (Ask.Range lo.now hi.now limit) a) }
+    ensures { IfOk result
+        (λ a. IsAnswer store.now.config (entries_of store.now.journal) (entries_of store.now.journal) snapshot
+        (Ask.Range lo.now hi.now limit) a) }
 {
     let rows = store.range_at(snapshot, lo.as_slice(), hi.as_slice(), limit)?;
     Ok(Answer::Rows(rows))
@@ -113,8 +117,12 @@ fn commit(store: &mut KvState<MetaEntry>, snapshot: u64, entry: Entry) -> Result
     requires agreed { Agrees (journal_rows store.old.config (entries_of store.old.journal) snapshot) entry.reads }
     ensures grown { OnOk result (store.new ≡ with_entry store.old entry) }
     ensures same { IfErr result (λ _. store.new ≡ store.old) }
-    ensures ok { IfOk result (λ version. IsAnswer store.old.config (entries_of store.old.journal) (entries_of store.new.journal) snapshot (Ask.Commit entry) (answers.Committed version)) }
-    ensures cause { IfErr result (λ why. HasCause (first_later writes_of (entries_of store.old.journal) snapshot entry.reads) (length (entries_of store.old.journal)) why) }
+    ensures ok { IfOk result
+        (λ version. IsAnswer store.old.config (entries_of store.old.journal) (entries_of store.new.journal)
+        snapshot (Ask.Commit entry) (answers.Committed version)) }
+    ensures cause { IfErr result
+        (λ why. HasCause (first_later writes_of (entries_of store.old.journal) snapshot entry.reads)
+        (length (entries_of store.old.journal)) why) }
     ensures keyed { IfErr result IsKeyed }
 {
     sound_store(store);
@@ -163,7 +171,9 @@ fn commit_answer(
     requires snapshot { snapshot ≤ length (entries_of store.old.journal) }
     requires sound { IsSoundEntry store.old.config entry }
     requires agreed { Agrees (journal_rows store.old.config (entries_of store.old.journal) snapshot) entry.reads }
-    ensures answer { IfOk result (λ a. IsAnswer store.old.config (entries_of store.old.journal) (entries_of store.new.journal) snapshot (Ask.Commit entry) a) }
+    ensures answer { IfOk result
+        (λ a. IsAnswer store.old.config (entries_of store.old.journal) (entries_of store.new.journal) snapshot
+        (Ask.Commit entry) a) }
     ensures key { IfOk result HasKey }
     ensures grows { (store.new ≡ store.old) ⊎ (store.new ≡ with_entry store.old entry) }
 {
@@ -185,10 +195,13 @@ pub fn answer(
 ) -> Result<Answer, Memory>
     requires open { IsOpen store.old }
     requires may { MayAnswer store.old.config (entries_of store.old.journal) snapshot ask }
-    ensures answer { IfOk result (λ a. IsAnswer store.old.config (entries_of store.old.journal) (entries_of store.new.journal) snapshot ask a) }
+    ensures answer { IfOk result
+        (λ a. IsAnswer store.old.config (entries_of store.old.journal) (entries_of store.new.journal) snapshot
+        ask a) }
     ensures key { IfOk result HasKey }
     ensures spelled { IsSpelled ask }
-    ensures grows { (store.new ≡ store.old) ⊎ ((entry : Entry) × (ask ≡ Ask.Commit entry) × (store.new ≡ with_entry store.old entry)) }
+    ensures grows { (store.new ≡ store.old)
+        ⊎ ((entry : Entry) × (ask ≡ Ask.Commit entry) × (store.new ≡ with_entry store.old entry)) }
 {
     match ask {
         Ask::Begin => Ok(Answer::Begun(store.front())),

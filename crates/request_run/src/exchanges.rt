@@ -25,9 +25,14 @@ pub fn exchange(
 ) -> Result<Ask, Memory>
     requires begun { IsOpen store.old }
     requires may { MayAnswer store.old.config (entries_of store.old.journal) task.old.snapshot ask }
-    requires fits { (new : List Entry) (answer : AnswerView) → IsAnswer store.old.config (entries_of store.old.journal) new task.old.snapshot ask answer → MayTake task.old.waiting answer }
-    ensures exchanged { IfOk result (λ next. IsExchange store.old.config (entries_of store.old.journal) (entries_of store.new.journal) task.old ask task.new next) }
-    ensures grows { (store.new ≡ store.old) ⊎ ((entry : Entry) × (ask ≡ asks.Commit entry) × (store.new ≡ with_entry store.old entry)) }
+    requires fits { (new : List Entry) (answer : AnswerView)
+        → IsAnswer store.old.config (entries_of store.old.journal) new task.old.snapshot ask answer
+        → MayTake task.old.waiting answer }
+    ensures exchanged { IfOk result
+        (λ next. IsExchange store.old.config (entries_of store.old.journal) (entries_of store.new.journal)
+        task.old ask task.new next) }
+    ensures grows { (store.new ≡ store.old)
+        ⊎ ((entry : Entry) × (ask ≡ asks.Commit entry) × (store.new ≡ with_entry store.old entry)) }
 {
     let answer = answer(alloc, store, task.snapshot(), ask)?;
     let next = task.next(answer)?;

@@ -14,7 +14,9 @@ use txn_task::{Answer, Ask, Asked};
 fn set_end(node: &mut NodeState, ask: EndDone) -> Result<Answer, Memory>
     requires holds { ask.holds ≡ true → 1 ≤ ask.keep }
     requires short { ask.rest ≤ CHUNK_BYTES }
-    ensures answer { (at : _) → IfOk result (λ a. IsNodeAnswer node.old node.new ask.client ask.number (asks.SetEnd at ask.inode ask.keep ask.rest ask.holds) a) }
+    ensures answer { (at : _) → IfOk result
+        (λ a. IsNodeAnswer node.old node.new ask.client ask.number
+        (asks.SetEnd at ask.inode ask.keep ask.rest ask.holds) a) }
     ensures err { OnErr result (node.new ≡ node.old) }
 {
     match node.set_end(ask) {

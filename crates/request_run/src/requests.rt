@@ -42,10 +42,13 @@ pub fn begin(
     requires from { 1 ≤ attempts }
     requires to { attempts ≤ ATTEMPTS }
     requires earlier { AreEarlier (entries_of store.now.journal) request }
-    ensures task { IfOk result (λ begun. begun.task ≡ record (new_task config attempts request) { waiting = waits.Beginning }) }
+    ensures task { IfOk result
+        (λ begun. begun.task ≡ record (new_task config attempts request) { waiting = waits.Beginning }) }
     ensures ask { IfOk result (λ begun. begun.ask ≡ asks.Begin) }
     ensures front { IfOk result (λ begun. begun.front ≡ length (entries_of store.now.journal)) }
-    ensures served { IfOk result (λ begun. IsReady config attempts (entries_of store.now.journal) request begun.front begun.task begun.ask) }
+    ensures served { IfOk result
+        (λ begun. IsReady config attempts (entries_of store.now.journal) request begun.front begun.task
+        begun.ask) }
 {
     let mut task = MetaTask::new(alloc, request, config, attempts)?;
     let ask = task.next(Answer::Start)?;
@@ -63,14 +66,20 @@ pub fn serve(
     serving: Serving,
 ) -> Result<Serving, Memory>
     requires opened { IsOpen store.old }
-    requires served { IsServed store.old.config serving.task.attempts (entries_of store.old.journal) serving.task.request serving.front serving.task }
+    requires served { IsServed store.old.config serving.task.attempts (entries_of store.old.journal) serving.task.request
+        serving.front serving.task }
     requires pending { IsPending store.old.config serving.task serving.ask }
-    ensures served { IfOk result (λ next. IsReady store.old.config serving.task.attempts (entries_of store.new.journal) serving.task.request serving.front next.task next.ask) }
-    ensures exchanged { IfOk result (λ next. IsExchange store.old.config (entries_of store.old.journal) (entries_of store.new.journal) serving.task serving.ask next.task next.ask) }
+    ensures served { IfOk result
+        (λ next. IsReady store.old.config serving.task.attempts (entries_of store.new.journal)
+        serving.task.request serving.front next.task next.ask) }
+    ensures exchanged { IfOk result
+        (λ next. IsExchange store.old.config (entries_of store.old.journal) (entries_of store.new.journal)
+        serving.task serving.ask next.task next.ask) }
     ensures front { IfOk result (λ next. next.front ≡ serving.front) }
     ensures grows { IsGrowth store.old store.new serving.task.request.client }
     ensures few { OnOk result (length store.new.journal ≤ JOURNAL_ENTRIES) }
-    ensures covered { AreCovered store.old.config (entries_of store.old.journal) → OnOk result (AreCovered store.old.config (entries_of store.new.journal)) }
+    ensures covered { AreCovered store.old.config (entries_of store.old.journal)
+        → OnOk result (AreCovered store.old.config (entries_of store.new.journal)) }
 {
     sound_store(store);
     let Serving {

@@ -10,5 +10,6 @@ use Rattle.run_record.specs.declared.run.Listed.{Listed}
 abbrev pub Follow : ℕ → Script → ℕ → List Op → List Listed → Type 0
 Follow k script op [] [] = Unit {0}
 Follow k script op (step ∷ steps) (listed ∷ rest) =
-    (listed.client ≡ k) × (listed.receipt.op ≡ op) × IsOf (single_request script op step) listed.receipt × (listed.receipt.gone ≡ []) × Follow k script (op + 1) steps rest
+    (listed.client ≡ k) × (listed.receipt.op ≡ op) × IsOf (single_request script op step) listed.receipt
+    × (listed.receipt.gone ≡ []) × Follow k script (op + 1) steps rest
 Follow k script op steps rest = ⊥

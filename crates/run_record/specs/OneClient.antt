@@ -9,4 +9,5 @@ commits_with commits listed = if listed.receipt.committed then commits + 1 else 
 -- the version of each reply is the number of the client's own commits so far
 abbrev pub CountCommits : ℕ → List Listed → Type 0
 CountCommits commits [] = Unit {0}
-CountCommits commits (listed ∷ rest) = (listed.receipt.version ≡ commits_with commits listed) × CountCommits (commits_with commits listed) rest
+CountCommits commits (listed ∷ rest) =
+    (listed.receipt.version ≡ commits_with commits listed) × CountCommits (commits_with commits listed) rest

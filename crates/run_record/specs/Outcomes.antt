@@ -32,25 +32,30 @@ seen_by outcome = max outcome.version (last_version 0 outcome.conflicts)
 
 -- ---- committed
 
--- an entry has the reply: that of the outcome's version, of this request but for the server, made behind the last conflict
-pub record NamesEntry (journal : List Entry) (request : Request) (front : ℕ) (outcome : Outcome) : Type 0 where
-  pub place : ℕ
-  pub version : outcome.version ≡ place + 1
-  pub entry : Entry
-  pub at : EntryAt journal place entry
-  pub client : entry.request.client ≡ request.client
-  pub number : entry.request.number ≡ request.number
-  pub stamp : entry.request.stamp ≡ request.stamp
-  pub call : entry.request.call ≡ request.call
-  pub reply : entry.reply ≡ outcome.reply
-  pub above : last_version front outcome.conflicts ≤ place
+-- an entry has the reply: that of the outcome's version, of this request but for the server, made behind the
+-- last conflict
+pub record NamesEntry (journal : List Entry) (request : Request) (front : ℕ) (outcome : Outcome) : Type 0
+  where
+    pub place : ℕ
+    pub version : outcome.version ≡ place + 1
+    pub entry : Entry
+    pub at : EntryAt journal place entry
+    pub client : entry.request.client ≡ request.client
+    pub number : entry.request.number ≡ request.number
+    pub stamp : entry.request.stamp ≡ request.stamp
+    pub call : entry.request.call ≡ request.call
+    pub reply : entry.reply ≡ outcome.reply
+    pub above : last_version front outcome.conflicts ≤ place
 
 -- ---- seen
 
 -- the plain tree at the outcome's version gives the reply, and stays, whatever length is settled
-pub record IsTold (C : Settings) (journal : List Entry) (request : Request) (front : ℕ) (outcome : Outcome) : Type 0 where
+pub record IsTold (C : Settings) (journal : List Entry) (request : Request) (front : ℕ)
+    (outcome : Outcome) : Type 0 where
   pub from : last_version front outcome.conflicts ≤ outcome.version
-  pub told : (settled : ℕ) → apply C (tree_at C journal outcome.version) request settled ≡ (tree_at C journal outcome.version, outcome.reply)
+  pub told : (settled : ℕ)
+      → apply C (tree_at C journal outcome.version) request settled
+      ≡ (tree_at C journal outcome.version, outcome.reply)
 
 -- the last attempt began behind the conflict before the last one, and met the last one
 pub record IsSpent (front : ℕ) (outcome : Outcome) : Type 0 where
@@ -69,13 +74,16 @@ Shows C journal request front outcome (Refused codes.StoreFull) = IsFull journal
 Shows C journal request front outcome reply = IsTold C journal request front outcome
 
 -- nothing has the reply; it was seen, no earlier than the call began
-pub record IsSeen (C : Settings) (journal : List Entry) (request : Request) (front : ℕ) (outcome : Outcome) : Type 0 where
+pub record IsSeen (C : Settings) (journal : List Entry) (request : Request) (front : ℕ)
+    (outcome : Outcome) : Type 0 where
   pub above : front ≤ outcome.version
   pub within : outcome.version ≤ length journal
   pub shown : Shows C journal request front outcome outcome.reply
 
 abbrev pub IsOutcome : Settings → List Entry → Request → ℕ → Outcome → Type 0
-IsOutcome C journal request front outcome = MatchBool outcome.committed (NamesEntry journal request front outcome) (IsSeen C journal request front outcome)
+IsOutcome C journal request front outcome =
+    MatchBool outcome.committed (NamesEntry journal request front outcome)
+    (IsSeen C journal request front outcome)
 
 -- ---- which replies there may be
 

@@ -56,11 +56,13 @@ pub record NamesLater (journal : List Entry) (client : ClientId) (floor : ℕ) (
 -- versions rise, from above the front
 abbrev pub AreLater : List Entry → ClientId → ℕ → List (ℕ × Key) → Type 0
 AreLater journal client floor [] = Unit {0}
-AreLater journal client floor (pair ∷ pairs) = NamesLater journal client floor pair × AreLater journal client pair.0 pairs
+AreLater journal client floor (pair ∷ pairs) =
+    NamesLater journal client floor pair × AreLater journal client pair.0 pairs
 
 -- the request may read the key at a snapshot before the conflict: at some, since a record doesn't keep where
 -- attempts began
-pub record MayMeet (C : Settings) (journal : List Entry) (request : Request) (floor : ℕ) (pair : ℕ × Key) : Type 0 where
+pub record MayMeet (C : Settings) (journal : List Entry) (request : Request) (floor : ℕ)
+    (pair : ℕ × Key) : Type 0 where
   pub snapshot : ℕ
   pub from : floor ≤ snapshot
   pub before : snapshot < pair.0
@@ -69,20 +71,29 @@ pub record MayMeet (C : Settings) (journal : List Entry) (request : Request) (fl
 -- no attempt begins before the conflict of the one before
 abbrev pub MayMeetAll : Settings → List Entry → Request → ℕ → List (ℕ × Key) → Type 0
 MayMeetAll C journal request floor [] = Unit {0}
-MayMeetAll C journal request floor (pair ∷ pairs) = MayMeet C journal request floor pair × MayMeetAll C journal request pair.0 pairs
+MayMeetAll C journal request floor (pair ∷ pairs) =
+    MayMeet C journal request floor pair × MayMeetAll C journal request pair.0 pairs
 
 -- both, of a request's own conflicts
 abbrev pub IsConflict : Settings → List Entry → Request → ℕ → ℕ × Key → Type 0
-IsConflict C journal request floor pair = NamesLater journal request.client floor pair × MayMeet C journal request floor pair
+IsConflict C journal request floor pair =
+    NamesLater journal request.client floor pair × MayMeet C journal request floor pair
 
 abbrev pub AreConflicts : Settings → List Entry → Request → ℕ → List (ℕ × Key) → Type 0
-AreConflicts C journal request floor pairs = AreLater journal request.client floor pairs × MayMeetAll C journal request floor pairs
+AreConflicts C journal request floor pairs =
+    AreLater journal request.client floor pairs × MayMeetAll C journal request floor pairs
 
 -- ---- receipts
 
 -- what the receipt says of its call's end
 abbrev pub outcome_of : Receipt → Outcome
-outcome_of receipt = record { reply = receipt.reply; version = receipt.version; committed = receipt.committed; conflicts = receipt.conflicts }
+outcome_of receipt =
+    record {
+      reply = receipt.reply;
+      version = receipt.version;
+      committed = receipt.committed;
+      conflicts = receipt.conflicts;
+    }
 
 -- a stop of this server took a request away
 abbrev pub HasStopped : List (ℕ × ℕ) → ℕ → Type 0
@@ -96,7 +107,9 @@ WasSentTo receipt server = (receipt.server ≡ Some server) ⊎ HasStopped recei
 -- an entry that the receipt names was made by a server that the call was sent to, which need not have
 -- answered: it may stop behind the commit, and the next one answers with the kept reply
 abbrev pub IsMadeBy : List Entry → Receipt → Type 0
-IsMadeBy journal receipt = receipt.committed ≡ true → (place : ℕ) (entry : Entry) → EntryAt journal place entry → receipt.version ≡ place + 1 → WasSentTo receipt entry.request.server
+IsMadeBy journal receipt =
+    receipt.committed ≡ true → (place : ℕ) (entry : Entry) → EntryAt journal place entry
+    → receipt.version ≡ place + 1 → WasSentTo receipt entry.request.server
 
 -- a server's receipt is that of a request, whose outcome it tells
 pub record IsServed (C : Settings) (journal : List Entry) (client : ClientId) (listed : Listed) : Type 0 where
@@ -110,16 +123,20 @@ pub record IsServed (C : Settings) (journal : List Entry) (client : ClientId) (l
 
 -- the footprint of its request has each key that it met as a conflict
 abbrev pub StaysInside : Settings → List Entry → ClientId → Listed → Type 0
-StaysInside C journal client listed = (request : Request) → request.client ≡ client → IsOf request listed.receipt → MayMeetAll C journal request (front_of listed.fronts) listed.receipt.conflicts
+StaysInside C journal client listed =
+    (request : Request) → request.client ≡ client → IsOf request listed.receipt
+    → MayMeetAll C journal request (front_of listed.fronts) listed.receipt.conflicts
 
 -- a server's receipt, and what the plan and the footprint say of it; the first is all that a record shows
 -- without its plan
-pub record IsAnswered (C : Settings) (attempts : ℕ) (journal : List Entry) (client : ClientId) (listed : Listed) : Type 0 where
+pub record IsAnswered (C : Settings) (attempts : ℕ) (journal : List Entry) (client : ClientId)
+    (listed : Listed) : Type 0 where
   pub served : IsServed C journal client listed
   pub met : AreAttempts attempts listed.receipt.reply (length listed.receipt.conflicts)
   pub inside : StaysInside C journal client listed
 
-pub record IsReceipt (C : Settings) (attempts : ℕ) (journal : List Entry) (client : ClientId) (listed : Listed) : Type 0 where
+pub record IsReceipt (C : Settings) (attempts : ℕ) (journal : List Entry) (client : ClientId)
+    (listed : Listed) : Type 0 where
   -- of each storage node nothing was seen
   pub fronts : listed.fronts ≡ fronts_of C (front_of listed.fronts)
   pub text : listed.text ≡ text_of listed.receipt.call listed.receipt.reply
@@ -128,17 +145,22 @@ pub record IsReceipt (C : Settings) (attempts : ℕ) (journal : List Entry) (cli
 
 abbrev pub AreReceipts : Settings → ℕ → List Entry → ClientId → List Listed → Type 0
 AreReceipts C attempts journal client [] = Unit {0}
-AreReceipts C attempts journal client (listed ∷ rest) = IsReceipt C attempts journal client listed × AreReceipts C attempts journal client rest
+AreReceipts C attempts journal client (listed ∷ rest) =
+    IsReceipt C attempts journal client listed × AreReceipts C attempts journal client rest
 
 -- ---- one client's, in order
 
 -- a call begins with all that its client had seen before, conflicts too
 abbrev pub Rises : ℕ → List Listed → Type 0
 Rises floor [] = Unit {0}
-Rises floor (listed ∷ rest) = (floor ≤ front_of listed.fronts) × (front_of listed.fronts ≤ listed.receipt.version) × Rises (seen_by (outcome_of listed.receipt)) rest
+Rises floor (listed ∷ rest) =
+    (floor ≤ front_of listed.fronts) × (front_of listed.fronts ≤ listed.receipt.version)
+    × Rises (seen_by (outcome_of listed.receipt)) rest
 
--- all the receipts of a client: those that its steps tell, run over what its requests came to, to the script's end
-pub record IsSection (C : Settings) (attempts : ℕ) (journal : List Entry) (k : ℕ) (script : Script) (own : List Listed) : Type 0 where
+-- all the receipts of a client: those that its steps tell, run over what its requests came to, to the
+-- script's end
+pub record IsSection (C : Settings) (attempts : ℕ) (journal : List Entry) (k : ℕ) (script : Script)
+    (own : List Listed) : Type 0 where
   pub outcomes : List Outcome
   pub told : map (λ listed. listed.receipt) own ≡ receipts_told (new_client C script) outcomes
   pub ended : has_ended (replayed (new_client C script) outcomes) ≡ true

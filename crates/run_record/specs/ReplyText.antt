@@ -56,14 +56,17 @@ listed name word xs = name ∷ decimal (length xs) ∷ map word xs
 
 abbrev pub attribute_words : Attributes → List (List ℕ)
 attribute_words a =
-    codes "attr" ∷ decimal a.inode ∷ kind_word a.kind ∷ setting (codes "mode=") a.mode ∷ setting (codes "uid=") a.owner
+    codes "attr" ∷ decimal a.inode ∷ kind_word a.kind ∷ setting (codes "mode=") a.mode
+    ∷ setting (codes "uid=") a.owner
     ∷ setting (codes "gid=") a.group ∷ setting (codes "nlink=") a.links ∷ setting (codes "atime=") a.atime
-    ∷ setting (codes "mtime=") a.mtime ∷ setting (codes "ctime=") a.ctime ∷ setting (codes "length=") a.length ∷ []
+    ∷ setting (codes "mtime=") a.mtime ∷ setting (codes "ctime=") a.ctime ∷ setting (codes "length=") a.length
+    ∷ []
 
 abbrev pub file_words : FileInfo → List (List ℕ)
 file_words f =
     codes "file" ∷ decimal f.inode ∷ setting (codes "length=") f.length ∷ setting (codes "truncs=") f.truncs
-    ∷ setting (codes "hint=") f.hint ∷ setting (codes "chunk=") f.layout.chunk ∷ setting (codes "stripe=") f.layout.stripe
+    ∷ setting (codes "hint=") f.hint ∷ setting (codes "chunk=") f.layout.chunk
+    ∷ setting (codes "stripe=") f.layout.stripe
     ∷ setting (codes "start=") f.layout.start ∷ setting (codes "mix=") f.layout.mix ∷ []
 
 -- a refusal is its code's name, with what the code tells
@@ -90,8 +93,10 @@ code_words refusals.ShortHint = codes "ShortHint" ∷ []
 code_words (refusals.Stale kept) = codes "Stale" ∷ setting (codes "kept=") kept ∷ []
 code_words refusals.Conflict = codes "Conflict" ∷ []
 code_words refusals.StoreFull = codes "StoreFull" ∷ []
-code_words (refusals.NodeFull node written) = codes "NodeFull" ∷ setting (codes "node=") node ∷ setting (codes "written=") written ∷ []
-code_words (refusals.Removed version written) = codes "Removed" ∷ setting (codes "version=") version ∷ setting (codes "written=") written ∷ []
+code_words (refusals.NodeFull node written) =
+    codes "NodeFull" ∷ setting (codes "node=") node ∷ setting (codes "written=") written ∷ []
+code_words (refusals.Removed version written) =
+    codes "Removed" ∷ setting (codes "version=") version ∷ setting (codes "written=") written ∷ []
 
 -- what a call was answered
 abbrev pub reply_words : Reply → List (List ℕ)
@@ -103,12 +108,15 @@ reply_words (replies.Names entries) = listed (codes "names") entry_word entries
 reply_words (replies.Target path) = codes "target" ∷ hex_word path ∷ []
 reply_words (replies.File info) = file_words info
 reply_words (replies.Hint places) = setting (codes "hint=") places ∷ []
-reply_words (replies.Reported adopted length) = setting (codes "adopted=") (flag adopted) ∷ setting (codes "length=") length ∷ []
+reply_words (replies.Reported adopted length) =
+    setting (codes "adopted=") (flag adopted) ∷ setting (codes "length=") length ∷ []
 reply_words (replies.Settled length) = setting (codes "length=") length ∷ []
-reply_words (replies.Cut length truncs) = setting (codes "length=") length ∷ setting (codes "truncs=") truncs ∷ []
+reply_words (replies.Cut length truncs) =
+    setting (codes "length=") length ∷ setting (codes "truncs=") truncs ∷ []
 reply_words (replies.Doomed inodes) = listed (codes "ids") doomed_word inodes
 reply_words (replies.Pruned sessions) = setting (codes "pruned=") sessions ∷ []
-reply_words (replies.Wrote bytes pieces) = setting (codes "bytes=") bytes ∷ setting (codes "pieces=") pieces ∷ []
+reply_words (replies.Wrote bytes pieces) =
+    setting (codes "bytes=") bytes ∷ setting (codes "pieces=") pieces ∷ []
 reply_words (replies.Data runs) = listed (codes "data") data_word runs
 reply_words (replies.Swept files) = setting (codes "reaped=") files ∷ []
 reply_words (replies.Refused code) = code_words code

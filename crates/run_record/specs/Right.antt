@@ -27,7 +27,8 @@ abbrev pub IsNoRefusal : Reply → Type 0
 IsNoRefusal (Refused code) = ⊥
 IsNoRefusal reply = Unit {0}
 
--- an entry is sound: a change that was done. It read what stood before it, its call's whole footprint and nothing else, and asked no storage node
+-- an entry is sound: a change that was done. It read what stood before it, its call's whole footprint and
+-- nothing else, and asked no storage node
 pub record IsRightEntry (C : Settings) (journal : List Entry) (place : ℕ) (entry : Entry) : Type 0 where
   pub agrees : Agrees (journal_rows C journal place) entry.reads
   pub sound : IsSoundEntry C entry
@@ -41,7 +42,8 @@ pub record IsRightEntry (C : Settings) (journal : List Entry) (place : ℕ) (ent
 abbrev pub AreSections : Settings → ℕ → List Entry → ℕ → List Script → List Listed → Type 0
 AreSections C attempts journal k [] receipts = receipts ≡ []
 AreSections C attempts journal k (script ∷ scripts) receipts =
-    (own : List Listed) × (rest : List Listed) × (receipts ≡ own ++ rest) × IsSection C attempts journal k script own × AreSections C attempts journal (k + 1) scripts rest
+    (own : List Listed) × (rest : List Listed) × (receipts ≡ own ++ rest)
+    × IsSection C attempts journal k script own × AreSections C attempts journal (k + 1) scripts rest
 
 -- the receipt names the entry at a place
 abbrev pub names_place : ℕ → Listed → Bool
@@ -69,7 +71,9 @@ is_named (Some id) = not (id.0 == 0)
 -- the client and the operation of each receipt, the sweeper's excepted
 abbrev pub ops_told : List ClientId → List Listed → List (ℕ × ℕ)
 ops_told clients [] = []
-ops_told clients (listed ∷ rest) = if is_named (slice_get clients listed.client) then (listed.client, listed.receipt.op) ∷ ops_told clients rest else ops_told clients rest
+ops_told clients (listed ∷ rest) =
+    if is_named (slice_get clients listed.client) then (listed.client, listed.receipt.op)
+    ∷ ops_told clients rest else ops_told clients rest
 
 -- the server of each stop that took a request away, and which of its stops it was
 abbrev pub stops_told : List Listed → List (ℕ × ℕ)
@@ -102,8 +106,10 @@ pub record IsRight (plan : Plan) (run : Record) : Type 0 where
   pub clients : run.clients ≡ map (λ script. script.id) (scripts_in plan)
   -- the entries are a history of the plain tree; their rows are well formed at each version, and the tree's
   pub legal : IsLegal plan.config run.entries
-  pub rows : (n : ℕ) → HasTree plan.config (journal_rows plan.config run.entries n) (tree_at plan.config run.entries n)
-  pub entries : (place : ℕ) (entry : Entry) → EntryAt run.entries place entry → IsRightEntry plan.config run.entries place entry
+  pub rows : (n : ℕ)
+      → HasTree plan.config (journal_rows plan.config run.entries n) (tree_at plan.config run.entries n)
+  pub entries : (place : ℕ) (entry : Entry) → EntryAt run.entries place entry
+      → IsRightEntry plan.config run.entries place entry
   -- each operation has its receipt, and each entry exactly one that names it
   pub sections : AreSections plan.config plan.attempts run.entries 0 (scripts_in plan) run.receipts
   pub named : (place : ℕ) → place < length run.entries → count_by (names_place place) run.receipts ≡ 1

@@ -76,7 +76,9 @@ fn front_of(alloc: Global, client: u16, receipt: &Receipt) -> Result<Vec<u8>, Me
 }
 
 fn push_gone(out: &mut String, client: u16, receipt: &Receipt) -> Result<(), AllocError>
-    ensures { OnOk result (string_bytes out.new ≡ string_bytes out.old ++ flat_map (gone_line client receipt.now) receipt.now.gone) }
+    ensures { OnOk result
+        (string_bytes out.new ≡ string_bytes out.old
+        ++ flat_map (gone_line client receipt.now) receipt.now.gone) }
 {
     for stop in receipt.gone.as_slice() {
         push_gone_line(out, client, receipt, stop)?;
@@ -90,7 +92,8 @@ fn push_gone_line(
     receipt: &Receipt,
     stop: &(u8, u32),
 ) -> Result<(), AllocError>
-    ensures { OnOk result (string_bytes out.new ≡ string_bytes out.old ++ gone_line client receipt.now stop.now) }
+    ensures { OnOk result
+        (string_bytes out.new ≡ string_bytes out.old ++ gone_line client receipt.now stop.now) }
 {
     let (server, place) = *stop;
     out.push_str("gone ")?;
@@ -104,7 +107,9 @@ fn push_conflicts(
     client: u16,
     receipt: &Receipt,
 ) -> Result<(), Memory>
-    ensures { OnOk result (string_bytes out.new ≡ string_bytes out.old ++ conflict_lines client receipt.now 1 receipt.now.conflicts) }
+    ensures { OnOk result
+        (string_bytes out.new ≡ string_bytes out.old
+        ++ conflict_lines client receipt.now 1 receipt.now.conflicts) }
 {
     for (place, pair) in receipt.conflicts.as_slice().iter().enumerate() {
         push_conflict(out, alloc, client, receipt, place + 1, pair)?;
@@ -120,7 +125,8 @@ fn push_conflict(
     attempt: usize,
     pair: &(u64, Key),
 ) -> Result<(), Memory>
-    ensures { OnOk result (string_bytes out.new ≡ string_bytes out.old ++ conflict_line client receipt.now attempt pair.now) }
+    ensures { OnOk result
+        (string_bytes out.new ≡ string_bytes out.old ++ conflict_line client receipt.now attempt pair.now) }
 {
     let version = pair.0;
     let key = pair.1.write(alloc)?;
@@ -134,7 +140,8 @@ fn push_conflict(
 
 /// The client, the operation's place and the request's number, a space after each.
 fn push_source(out: &mut String, client: u16, receipt: &Receipt) -> Result<(), AllocError>
-    ensures { OnOk result (string_bytes out.new ≡ string_bytes out.old ++ spaced (source_words client receipt.now)) }
+    ensures { OnOk result
+        (string_bytes out.new ≡ string_bytes out.old ++ spaced (source_words client receipt.now)) }
 {
     let op = receipt.op;
     write!(out, "{client} {op} ")?;
@@ -142,7 +149,8 @@ fn push_source(out: &mut String, client: u16, receipt: &Receipt) -> Result<(), A
 }
 
 fn push_receipt_words(out: &mut String, client: u16, receipt: &Receipt) -> Result<(), AllocError>
-    ensures { OnOk result (string_bytes out.new ≡ string_bytes out.old ++ spaced (receipt_words client receipt.now)) }
+    ensures { OnOk result
+        (string_bytes out.new ≡ string_bytes out.old ++ spaced (receipt_words client receipt.now)) }
 {
     let mark = mark_word(receipt.committed);
     let version = receipt.version;

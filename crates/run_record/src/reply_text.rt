@@ -37,14 +37,17 @@ pub fn push_reply(out: &mut String, reply: &Reply) -> Result<(), AllocError>
 }
 
 fn push_made(out: &mut String, id: &InodeId) -> Result<(), AllocError>
-    ensures { OnOk result (string_bytes out.new ≡ string_bytes out.old ++ joined (codes "made" ∷ decimal id.now ∷ [])) }
+    ensures { OnOk result
+        (string_bytes out.new ≡ string_bytes out.old ++ joined (codes "made" ∷ decimal id.now ∷ [])) }
 {
     let id = id.get();
     write!(out, "made {id}")
 }
 
 fn push_found(out: &mut String, id: &InodeId, kind: Kind) -> Result<(), AllocError>
-    ensures { OnOk result (string_bytes out.new ≡ string_bytes out.old ++ joined (codes "found" ∷ decimal id.now ∷ kind_word kind ∷ [])) }
+    ensures { OnOk result
+        (string_bytes out.new ≡ string_bytes out.old
+        ++ joined (codes "found" ∷ decimal id.now ∷ kind_word kind ∷ [])) }
 {
     let id = id.get();
     let kind = kind_word(kind);
@@ -62,7 +65,8 @@ fn kind_word(kind: Kind) -> &'static str
 }
 
 fn push_attributes(out: &mut String, attributes: &Attributes) -> Result<(), AllocError>
-    ensures { OnOk result (string_bytes out.new ≡ string_bytes out.old ++ joined (attribute_words attributes.now)) }
+    ensures { OnOk result
+        (string_bytes out.new ≡ string_bytes out.old ++ joined (attribute_words attributes.now)) }
 {
     let id = attributes.inode.get();
     let kind = kind_word(attributes.kind);
@@ -81,7 +85,9 @@ fn push_attributes(out: &mut String, attributes: &Attributes) -> Result<(), Allo
 }
 
 fn push_entries(out: &mut String, entries: &[DirEntry]) -> Result<(), AllocError>
-    ensures { OnOk result (string_bytes out.new ≡ string_bytes out.old ++ joined (listed (codes "names") entry_word entries.now)) }
+    ensures { OnOk result
+        (string_bytes out.new ≡ string_bytes out.old
+        ++ joined (listed (codes "names") entry_word entries.now)) }
 {
     push_count(out, "names", entries.len())?;
     for entry in entries {
@@ -109,7 +115,8 @@ fn push_entry(out: &mut String, entry: &DirEntry) -> Result<(), AllocError>
 }
 
 fn push_target(out: &mut String, path: &[u8]) -> Result<(), AllocError>
-    ensures { OnOk result (string_bytes out.new ≡ string_bytes out.old ++ joined (codes "target" ∷ hex_word path.now ∷ [])) }
+    ensures { OnOk result
+        (string_bytes out.new ≡ string_bytes out.old ++ joined (codes "target" ∷ hex_word path.now ∷ [])) }
 {
     out.push_str("target ")?;
     push_hex(out, path)
@@ -134,13 +141,16 @@ fn push_file(out: &mut String, info: &FileInfo) -> Result<(), AllocError>
 
 /// A name with its equals sign, and a number.
 fn push_setting(out: &mut String, name: &str, number: u64) -> Result<(), AllocError>
-    ensures { OnOk result (string_bytes out.new ≡ string_bytes out.old ++ joined (setting name.now number ∷ [])) }
+    ensures { OnOk result
+        (string_bytes out.new ≡ string_bytes out.old ++ joined (setting name.now number ∷ [])) }
 {
     write!(out, "{name}{number}")
 }
 
 fn push_reported(out: &mut String, adopted: bool, length: u64) -> Result<(), AllocError>
-    ensures { OnOk result (string_bytes out.new ≡ string_bytes out.old ++ joined (setting (codes "adopted=") (flag adopted) ∷ setting (codes "length=") length ∷ [])) }
+    ensures { OnOk result
+        (string_bytes out.new ≡ string_bytes out.old
+        ++ joined (setting (codes "adopted=") (flag adopted) ∷ setting (codes "length=") length ∷ [])) }
 {
     let adopted = flag(adopted);
     write!(out, "adopted={adopted} length={length}")
@@ -153,13 +163,16 @@ fn flag(holds: bool) -> u8
 }
 
 fn push_cut(out: &mut String, length: u64, truncs: u32) -> Result<(), AllocError>
-    ensures { OnOk result (string_bytes out.new ≡ string_bytes out.old ++ joined (setting (codes "length=") length ∷ setting (codes "truncs=") truncs ∷ [])) }
+    ensures { OnOk result
+        (string_bytes out.new ≡ string_bytes out.old
+        ++ joined (setting (codes "length=") length ∷ setting (codes "truncs=") truncs ∷ [])) }
 {
     write!(out, "length={length} truncs={truncs}")
 }
 
 fn push_doomed(out: &mut String, inodes: &[DoomedInode]) -> Result<(), AllocError>
-    ensures { OnOk result (string_bytes out.new ≡ string_bytes out.old ++ joined (listed (codes "ids") doomed_word inodes.now)) }
+    ensures { OnOk result
+        (string_bytes out.new ≡ string_bytes out.old ++ joined (listed (codes "ids") doomed_word inodes.now)) }
 {
     push_count(out, "ids", inodes.len())?;
     for inode in inodes {
@@ -187,13 +200,16 @@ fn phase_word(phase: DeletionPhase) -> &'static str
 }
 
 fn push_wrote(out: &mut String, bytes: u64, pieces: u32) -> Result<(), AllocError>
-    ensures { OnOk result (string_bytes out.new ≡ string_bytes out.old ++ joined (setting (codes "bytes=") bytes ∷ setting (codes "pieces=") pieces ∷ [])) }
+    ensures { OnOk result
+        (string_bytes out.new ≡ string_bytes out.old
+        ++ joined (setting (codes "bytes=") bytes ∷ setting (codes "pieces=") pieces ∷ [])) }
 {
     write!(out, "bytes={bytes} pieces={pieces}")
 }
 
 fn push_data(out: &mut String, runs: &[DataRun]) -> Result<(), AllocError>
-    ensures { OnOk result (string_bytes out.new ≡ string_bytes out.old ++ joined (listed (codes "data") data_word runs.now)) }
+    ensures { OnOk result
+        (string_bytes out.new ≡ string_bytes out.old ++ joined (listed (codes "data") data_word runs.now)) }
 {
     push_count(out, "data", runs.len())?;
     for run in runs {
@@ -244,7 +260,8 @@ fn push_code(out: &mut String, code: Code) -> Result<(), AllocError>
 }
 
 fn push_limit(out: &mut String, limit: Limit) -> Result<(), AllocError>
-    ensures { OnOk result (string_bytes out.new ≡ string_bytes out.old ++ joined (codes "AtLimit" ∷ limit_word limit ∷ [])) }
+    ensures { OnOk result
+        (string_bytes out.new ≡ string_bytes out.old ++ joined (codes "AtLimit" ∷ limit_word limit ∷ [])) }
 {
     let limit = limit_word(limit);
     write!(out, "AtLimit {limit}")
@@ -261,19 +278,26 @@ fn limit_word(limit: Limit) -> &'static str
 }
 
 fn push_stale(out: &mut String, kept: u64) -> Result<(), AllocError>
-    ensures { OnOk result (string_bytes out.new ≡ string_bytes out.old ++ joined (codes "Stale" ∷ setting (codes "kept=") kept ∷ [])) }
+    ensures { OnOk result
+        (string_bytes out.new ≡ string_bytes out.old
+        ++ joined (codes "Stale" ∷ setting (codes "kept=") kept ∷ [])) }
 {
     write!(out, "Stale kept={kept}")
 }
 
 fn push_node_full(out: &mut String, node: u8, written: u64) -> Result<(), AllocError>
-    ensures { OnOk result (string_bytes out.new ≡ string_bytes out.old ++ joined (codes "NodeFull" ∷ setting (codes "node=") node ∷ setting (codes "written=") written ∷ [])) }
+    ensures { OnOk result
+        (string_bytes out.new ≡ string_bytes out.old
+        ++ joined (codes "NodeFull" ∷ setting (codes "node=") node ∷ setting (codes "written=") written ∷ [])) }
 {
     write!(out, "NodeFull node={node} written={written}")
 }
 
 fn push_removed(out: &mut String, version: u64, written: u64) -> Result<(), AllocError>
-    ensures { OnOk result (string_bytes out.new ≡ string_bytes out.old ++ joined (codes "Removed" ∷ setting (codes "version=") version ∷ setting (codes "written=") written ∷ [])) }
+    ensures { OnOk result
+        (string_bytes out.new ≡ string_bytes out.old
+        ++ joined (codes "Removed" ∷ setting (codes "version=") version ∷ setting (codes "written=") written
+        ∷ [])) }
 {
     write!(out, "Removed version={version} written={written}")
 }

@@ -28,4 +28,5 @@ number_or name limit default d = number_at name limit d >>= λ n. Ok (unwrap_or 
 
 -- a number from 1 to the greatest
 abbrev pub count_or : List ℕ → ℕ → ℕ → Data → Result ℕ Broken
-count_or name greatest default d = number_in (λ n. nat_le 1 n && nat_le n greatest) (get name d) >>= λ n. Ok (unwrap_or n default)
+count_or name greatest default d =
+    number_in (λ n. nat_le 1 n && nat_le n greatest) (get name d) >>= λ n. Ok (unwrap_or n default)

@@ -24,9 +24,12 @@ named name (row ∷ rows) = if bytes_eq name row.0 then Some row.1 else named na
 
 abbrev pub kind_table : List (List ℕ × OpKind)
 kind_table =
-    (codes "mkdir", kinds.Mkdir) ∷ (codes "create", kinds.Create) ∷ (codes "symlink", kinds.Symlink) ∷ (codes "setattr", kinds.Setattr)
-    ∷ (codes "link", kinds.Link) ∷ (codes "unlink", kinds.Unlink) ∷ (codes "rmdir", kinds.Rmdir) ∷ (codes "rename", kinds.Rename)
-    ∷ (codes "lookup", kinds.Lookup) ∷ (codes "stat", kinds.Stat) ∷ (codes "list", kinds.List) ∷ (codes "readlink", kinds.Readlink) ∷ []
+    (codes "mkdir", kinds.Mkdir) ∷ (codes "create", kinds.Create) ∷ (codes "symlink", kinds.Symlink)
+    ∷ (codes "setattr", kinds.Setattr)
+    ∷ (codes "link", kinds.Link) ∷ (codes "unlink", kinds.Unlink) ∷ (codes "rmdir", kinds.Rmdir)
+    ∷ (codes "rename", kinds.Rename)
+    ∷ (codes "lookup", kinds.Lookup) ∷ (codes "stat", kinds.Stat) ∷ (codes "list", kinds.List)
+    ∷ (codes "readlink", kinds.Readlink) ∷ []
 
 abbrev pub kind_of : List ℕ → Option OpKind
 kind_of name = named name kind_table
@@ -99,9 +102,12 @@ changes_of d = do
 
 -- 493 is rwxr-xr-x, 420 is rw-r--r--
 abbrev pub op_with : OpKind → ℕ → Place → Data → Result Op Broken
-op_with kinds.Mkdir stamp place d = making_of 493 d >>= λ made. Ok (ops.Mkdir stamp place made.mode made.layout)
-op_with kinds.Create stamp place d = making_of 420 d >>= λ made. Ok (ops.Create stamp place made.mode made.layout)
-op_with kinds.Symlink stamp place d = short_text (codes "target") d >>= λ target. Ok (ops.Symlink stamp place target)
+op_with kinds.Mkdir stamp place d =
+    making_of 493 d >>= λ made. Ok (ops.Mkdir stamp place made.mode made.layout)
+op_with kinds.Create stamp place d =
+    making_of 420 d >>= λ made. Ok (ops.Create stamp place made.mode made.layout)
+op_with kinds.Symlink stamp place d =
+    short_text (codes "target") d >>= λ target. Ok (ops.Symlink stamp place target)
 op_with kinds.Setattr stamp place d = changes_of d >>= λ changes. Ok (ops.Setattr stamp place changes)
 op_with kinds.Link stamp place d = second_place d >>= λ to. Ok (ops.Link stamp place to)
 op_with kinds.Unlink stamp place d = Ok (ops.Unlink stamp place)

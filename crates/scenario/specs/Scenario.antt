@@ -97,7 +97,8 @@ config_of d = do
 
 abbrev pub top_keys : List (List ℕ)
 top_keys =
-    codes "clients" ∷ codes "servers" ∷ codes "nodes" ∷ codes "chains" ∷ codes "chunk" ∷ codes "stripe" ∷ codes "attempts"
+    codes "clients" ∷ codes "servers" ∷ codes "nodes" ∷ codes "chains" ∷ codes "chunk" ∷ codes "stripe"
+    ∷ codes "attempts"
     ∷ codes "schedule" ∷ []
 
 unfoldable pub plan_of : Data → Result Plan Broken

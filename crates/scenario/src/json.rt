@@ -56,7 +56,8 @@ pub fn array_at<'a>(value: &'a Value, name: &str, broken: Broken) -> Result<&'a 
 }
 
 fn member_array<'a>(value: &'a Value, name: &str) -> Option<&'a Vec<Value>>
-    ensures { option_map (λ v. items_view v.now.items) result ≡ option_and_then as_array (get name.now (view value.now)) }
+    ensures { option_map (λ v. items_view v.now.items) result
+        ≡ option_and_then as_array (get name.now (view value.now)) }
 {
     value.get(name).and_then(Value::as_array)
 }

@@ -281,7 +281,7 @@ fn link_with(alloc: Global, stamp: u64, from: Place, value: &Value) -> Result<Op
 }
 
 fn rename_with(alloc: Global, stamp: u64, from: Place, value: &Value) -> Result<Op, ScenarioError>
-    requires stamp { stamp < 2 ^ 53 }
+    requires stamp { stamp < TIMES }
     requires place { IsPlace from }
     ensures gives { Gives broken_of (λ op. op) result (op_with OpKind.Rename stamp from (view value.now)) }
     ensures valid { IfOk result (λ op. IsOp op) }

@@ -11,4 +11,5 @@ pub record Event : Type 0 where
 -- the newest one first: from one world to another, each event begins where the one before it ended
 abbrev pub AreEvents : WorldView → List Event → WorldView → Type 0
 AreEvents old [] new = new ≡ old
-AreEvents old (event ∷ earlier) new = (event.after ≡ new) × HasGone event.before event.after event.client × AreEvents old earlier event.before
+AreEvents old (event ∷ earlier) new =
+    (event.after ≡ new) × HasGone event.before event.after event.client × AreEvents old earlier event.before

@@ -20,12 +20,20 @@ use Rattle.world_core.specs.declared.seats.Work.{Work}
 
 -- ---- a request begins
 
--- the client has sent its next request; its task waits for its first answer, and its front is the journal's length
+-- the client has sent its next request; its task waits for its first answer, and its front is the journal's
+-- length
 pub record HasSent (C : Settings) (attempts front : ℕ) (before after : Seat) : Type 0 where
   pub server : ℕ
   pub request : Request
-  pub sends : send before.client (slice_get before.client.script.ops before.client.op) ≡ (after.client, client_asks.Send server request)
-  pub work : after.work ≡ Some (record { task = record (new_task C attempts request) { waiting = waits.Beginning }; ask = asks.Begin; server = server; front = front })
+  pub sends : send before.client (slice_get before.client.script.ops before.client.op)
+      ≡ (after.client, client_asks.Send server request)
+  pub work : after.work
+      ≡ Some (record {
+        task = record (new_task C attempts request) { waiting = waits.Beginning };
+        ask = asks.Begin;
+        server = server;
+        front = front;
+      })
   pub receipts : after.receipts ≡ before.receipts
 
 -- the request under way is the one that goes on; where none is, the next one is sent
@@ -36,14 +44,23 @@ IsAtWork C attempts front before after (Some work) = after ≡ before
 -- ---- what came of it
 
 -- the client has learned what its request came to, and keeps a receipt
-pub record HasLearned (C : Settings) (k : ℕ) (before after : Seat) (server front : ℕ) (task : TaskView) : Type 0 where
+pub record HasLearned (C : Settings) (k : ℕ) (before after : Seat) (server front : ℕ)
+    (task : TaskView) : Type 0 where
   pub outcome : Outcome
   pub is : task.outcome ≡ Some outcome
   pub client : after.client ≡ (end_call before.client server outcome before.client.request).0
   pub receipt : Receipt
-  pub told : client_asks.CallEnd (receipt ∷ []) true ≡ (end_call before.client server outcome before.client.request).1
+  pub told : client_asks.CallEnd (receipt ∷ []) true
+      ≡ (end_call before.client server outcome before.client.request).1
   pub work : after.work ≡ None
-  pub receipts : after.receipts ≡ before.receipts ++ record { client = k; fronts = fronts_of C front; receipt = receipt; text = text_of receipt.call receipt.reply } ∷ []
+  pub receipts : after.receipts ≡ before.receipts
+      ++ record {
+        client = k;
+        fronts = fronts_of C front;
+        receipt = receipt;
+        text = text_of receipt.call
+            receipt.reply;
+      } ∷ []
 
 -- the request goes on with its next ask, or it has ended
 abbrev pub Comes : Settings → ℕ → Seat → Seat → Work → Bool → Type 0

@@ -24,7 +24,8 @@ version_after floor [] = floor
 version_after floor (listed ∷ rest) = version_after (seen_by (outcome_of listed.receipt)) rest
 
 -- a receipt for each operation that has ended
-pub record IsPast (C : Settings) (attempts : ℕ) (journal : List Entry) (k : ℕ) (script : Script) (done : ℕ) (receipts : List Listed) : Type 0 where
+pub record IsPast (C : Settings) (attempts : ℕ) (journal : List Entry) (k : ℕ) (script : Script) (done : ℕ)
+    (receipts : List Listed) : Type 0 where
   pub follow : Follow k script 0 (take done script.ops) receipts
   pub each : AreReceipts C attempts journal script.id receipts
   pub rises : Rises 0 receipts
@@ -33,15 +34,18 @@ pub record IsPast (C : Settings) (attempts : ℕ) (journal : List Entry) (k : �
 -- some receipt names the entry of this place
 abbrev pub HasReceipt : List Listed → ℕ → Type 0
 HasReceipt [] place = ⊥
-HasReceipt (listed ∷ rest) place = ((listed.receipt.committed ≡ true) × (listed.receipt.version ≡ place + 1)) ⊎ HasReceipt rest place
+HasReceipt (listed ∷ rest) place =
+    ((listed.receipt.committed ≡ true) × (listed.receipt.version ≡ place + 1)) ⊎ HasReceipt rest place
 
 abbrev pub AreNamed : List Entry → ClientId → List Listed → Type 0
 AreNamed journal client receipts = EachOf journal client (λ place entry. HasReceipt receipts place)
 
 -- ---- the request under way
 
--- the request of the next operation is being served; a receipt names each entry that the client had made before
-pub record IsWork (C : Settings) (attempts : ℕ) (journal : List Entry) (script : Script) (op : ℕ) (receipts : List Listed) (work : Work) : Type 0 where
+-- the request of the next operation is being served; a receipt names each entry that the client had made
+-- before
+pub record IsWork (C : Settings) (attempts : ℕ) (journal : List Entry) (script : Script) (op : ℕ)
+    (receipts : List Listed) (work : Work) : Type 0 where
   pub step : Op
   pub there : slice_get script.ops op ≡ Some step
   pub from : version_after 0 receipts ≤ work.front
@@ -53,9 +57,11 @@ pub record IsWork (C : Settings) (attempts : ℕ) (journal : List Entry) (script
 -- ---- the client
 
 -- nothing is under way, or one request is
-abbrev pub IsWorking : Settings → ℕ → List Entry → Script → ℕ → List Listed → Option Request → Option Work → Type 0
+abbrev pub IsWorking : Settings → ℕ → List Entry → Script → ℕ → List Listed → Option Request → Option Work
+    → Type 0
 IsWorking C attempts journal script op receipts None None = AreNamed journal script.id receipts
-IsWorking C attempts journal script op receipts (Some request) (Some work) = IsWork C attempts journal script op receipts work
+IsWorking C attempts journal script op receipts (Some request) (Some work) =
+    IsWork C attempts journal script op receipts work
 IsWorking C attempts journal script op receipts under_way work = ⊥
 
 -- what holds of each client, after every turn of any
@@ -64,4 +70,5 @@ pub record IsSeat (C : Settings) (attempts : ℕ) (journal : List Entry) (k : �
   pub script : IsScript C.servers seat.client.script
   pub client : IsClient seat.client
   pub past : IsPast C attempts journal k seat.client.script seat.client.op seat.receipts
-  pub working : IsWorking C attempts journal seat.client.script seat.client.op seat.receipts seat.client.request seat.work
+  pub working : IsWorking C attempts journal seat.client.script seat.client.op seat.receipts
+      seat.client.request seat.work

@@ -19,17 +19,20 @@ IsOneMore before after = (after ≡ before) ⊎ (after ≡ before + 1)
 -- a turn of a client: at most one more of its operations has ended, and each other client is as it was
 pub record GoesOn (old new : List Seat) (client : ℕ) : Type 0 where
   pub others : KeepsOthers old new client
-  pub own : (before after : Seat) → slice_get old client ≡ Some before → slice_get new client ≡ Some after → IsOneMore before.client.op after.client.op
+  pub own : (before after : Seat) → slice_get old client ≡ Some before → slice_get new client ≡ Some after
+      → IsOneMore before.client.op after.client.op
 
 -- no operation of the client has ended
 pub record Stays (old new : List Seat) (client : ℕ) : Type 0 where
   pub others : KeepsOthers old new client
-  pub own : (before after : Seat) → slice_get old client ≡ Some before → slice_get new client ≡ Some after → after.client.op ≡ before.client.op
+  pub own : (before after : Seat) → slice_get old client ≡ Some before → slice_get new client ≡ Some after
+      → after.client.op ≡ before.client.op
 
 -- a whole operation of a client: one more has ended, and each other client is as it was
 pub record EndsOne (old new : List Seat) (client : ℕ) : Type 0 where
   pub others : KeepsOthers old new client
-  pub own : (before after : Seat) → slice_get old client ≡ Some before → slice_get new client ≡ Some after → after.client.op ≡ before.client.op + 1
+  pub own : (before after : Seat) → slice_get old client ≡ Some before → slice_get new client ≡ Some after
+      → after.client.op ≡ before.client.op + 1
 
 -- so many operations of the client have ended, or all
 abbrev pub IsAhead : ℕ → Seat → Type 0

@@ -25,4 +25,5 @@ grown objects entry = record objects { store = with_entry objects.store entry }
 
 -- one turn of a client: nothing has changed, or one object grew, by one; the store by an entry of that client
 abbrev pub IsStep : Objects → Objects → ClientId → Type 0
-IsStep before after client = (after ≡ before) ⊎ ((entry : Entry) × (after ≡ grown before entry) × (entry.request.client ≡ client))
+IsStep before after client =
+    (after ≡ before) ⊎ ((entry : Entry) × (after ≡ grown before entry) × (entry.request.client ≡ client))

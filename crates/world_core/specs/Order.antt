@@ -10,19 +10,24 @@ use Rattle.world_core.specs.declared.world.Turn.{Turn}
 
 -- below 100 a turn of that client; else a whole operation of the client whose number is 100 less
 abbrev pub IsItem : WorldView → WorldView → ℕ → Type 0
-IsItem old new item = MatchBool (nat_lt item 100) ((turn : Turn) × IsTurn old new item turn) ((turn : Turn) × IsOpTurn old new (item - 100) turn)
+IsItem old new item =
+    MatchBool (nat_lt item 100) ((turn : Turn) × IsTurn old new item turn)
+    ((turn : Turn) × IsOpTurn old new (item - 100) turn)
 
 -- so many of the items, one after another
 abbrev pub AreItems : List ℕ → WorldView → WorldView → ℕ → Type 0
 AreItems items old new zero = new ≡ old
-AreItems items old new (suc place) = (mid : WorldView) × AreItems items old mid place × ((item : ℕ) → slice_get items place ≡ Some item → IsItem mid new item)
+AreItems items old new (suc place) =
+    (mid : WorldView) × AreItems items old mid place
+    × ((item : ℕ) → slice_get items place ≡ Some item → IsItem mid new item)
 
 -- ---- rounds
 
 -- a whole operation of each of the first clients that has one left
 abbrev pub IsRoundTo : WorldView → WorldView → ℕ → Type 0
 IsRoundTo old new zero = new ≡ old
-IsRoundTo old new (suc client) = (mid : WorldView) × IsRoundTo old mid client × ((turn : Turn) × IsOpTurn mid new client turn)
+IsRoundTo old new (suc client) =
+    (mid : WorldView) × IsRoundTo old mid client × ((turn : Turn) × IsOpTurn mid new client turn)
 
 abbrev pub IsRound : WorldView → WorldView → Type 0
 IsRound old new = IsRoundTo old new (length old.seats)
@@ -30,7 +35,8 @@ IsRound old new = IsRoundTo old new (length old.seats)
 -- so many rounds, each of which begins where some client has something left
 abbrev pub AreRounds : WorldView → WorldView → ℕ → Type 0
 AreRounds old new zero = new ≡ old
-AreRounds old new (suc rounds) = (mid : WorldView) × AreRounds old mid rounds × (has_left mid.seats ≡ true) × IsRound mid new
+AreRounds old new (suc rounds) =
+    (mid : WorldView) × AreRounds old mid rounds × (has_left mid.seats ≡ true) × IsRound mid new
 
 -- ---- the run
 

@@ -1,6 +1,7 @@
 -- Clients and servers over one store.
 use Rattle.std.specs.Prelude.{◌≡◌, ◌≤◌, ◌<◌, ℕ, zero, suc, List, [], ◌∷◌, ◌++◌, Bool, true, false, length, map, slice_get, Some, None}
 use Rattle.fs_base.specs.Config.{Settings}
+use Rattle.fs_base.specs.declared.limits.TheConstants.{ATTEMPTS, CLIENTS, OPERATIONS}
 use Rattle.txn_task.specs.declared.messages.Entry.{Entry}
 use Rattle.client_core.specs.Client.{has_ended, new_client}
 use Rattle.client_core.specs.Plans.{AreDistinct, IsSchedule, ops_in}
@@ -35,15 +36,19 @@ scripts_of seats = map (λ seat. seat.client.script) seats
 
 -- the plan whose run this is
 abbrev pub plan_of : WorldView → Plan
-plan_of w = record { config = w.config; attempts = w.attempts; clients = scripts_of w.seats; schedule = w.schedule }
+plan_of w =
+    record { config = w.config; attempts = w.attempts; clients = scripts_of w.seats; schedule = w.schedule }
 
 -- what holds of each client
 abbrev pub AllSeats : Settings → ℕ → List Entry → List Seat → Type 0
-AllSeats C attempts journal seats = (k : ℕ) (seat : Seat) → slice_get seats k ≡ Some seat → IsSeat C attempts journal k seat
+AllSeats C attempts journal seats =
+    (k : ℕ) (seat : Seat) → slice_get seats k ≡ Some seat → IsSeat C attempts journal k seat
 
 -- each entry is a client's
 abbrev pub AreOwned : List Entry → List Seat → Type 0
-AreOwned journal seats = (place : ℕ) (entry : Entry) → EntryAt journal place entry → (k : ℕ) × (seat : Seat) × (slice_get seats k ≡ Some seat) × (entry.request.client ≡ seat.client.script.id)
+AreOwned journal seats =
+    (place : ℕ) (entry : Entry) → EntryAt journal place entry → (k : ℕ) × (seat : Seat)
+    × (slice_get seats k ≡ Some seat) × (entry.request.client ≡ seat.client.script.id)
 
 pub record AreSeated (C : Settings) (attempts : ℕ) (journal : List Entry) (seats : List Seat) : Type 0 where
   pub all : AllSeats C attempts journal seats
@@ -54,10 +59,10 @@ pub record IsWorld (w : WorldView) : Type 0 where
   pub config : w.objects.store.config ≡ w.config
   pub opened : IsOpen w.objects.store
   pub attempts_from : 1 ≤ w.attempts
-  pub attempts_to : w.attempts ≤ 64
+  pub attempts_to : w.attempts ≤ ATTEMPTS
   pub distinct : AreDistinct (scripts_of w.seats)
-  pub few : length w.seats ≤ 64
-  pub short : ops_in (scripts_of w.seats) ≤ 4000
+  pub few : length w.seats ≤ CLIENTS
+  pub short : ops_in (scripts_of w.seats) ≤ OPERATIONS
   pub schedule : IsSchedule (length w.seats) w.schedule
   pub seated : w.failed ≡ false → AreSeated w.config w.attempts (entries_of w.objects.store.journal) w.seats
 
@@ -93,16 +98,19 @@ HasEnded w client ended = (seat : Seat) → slice_get w.seats client ≡ Some se
 abbrev pub HasEvent : WorldView → WorldView → ℕ → Type 0
 HasEvent old new client =
     (before after : Seat) → slice_get old.seats client ≡ Some before → slice_get new.seats client ≡ Some after
-    → IsEvent old.config old.attempts client (entries_of old.objects.store.journal) (entries_of new.objects.store.journal) before after
+    → IsEvent old.config old.attempts client (entries_of old.objects.store.journal)
+    (entries_of new.objects.store.journal) before after
 
--- a turn that went on: one event of the client. The plan stays, the objects take at most one step, and memory sufficed
+-- a turn that went on: one event of the client. The plan stays, the objects take at most one step, and memory
+-- sufficed
 pub record HasGone (old new : WorldView) (client : ℕ) : Type 0 where
   pub within : client < length old.seats
   pub left : HasEnded old client false
   pub seats : GoesOn old.seats new.seats client
   pub event : HasEvent old new client
   pub same_plan : plan_of new ≡ plan_of old
-  pub objects : (seat : Seat) → slice_get old.seats client ≡ Some seat → IsStep old.objects new.objects seat.client.script.id
+  pub objects : (seat : Seat) → slice_get old.seats client ≡ Some seat
+      → IsStep old.objects new.objects seat.client.script.id
   pub was_alive : old.failed ≡ false
   pub alive : new.failed ≡ false
   pub world : IsWorld new
@@ -115,7 +123,8 @@ IsTurn old new client turns.Went = HasGone old new client
 -- so many turns of the client, each of which went on
 abbrev pub AreTurns : WorldView → WorldView → ℕ → ℕ → Type 0
 AreTurns old new client zero = new ≡ old
-AreTurns old new client (suc count) = (mid : WorldView) × AreTurns old mid client count × IsTurn mid new client turns.Went
+AreTurns old new client (suc count) =
+    (mid : WorldView) × AreTurns old mid client count × IsTurn mid new client turns.Went
 
 -- turns of the client of which the last one alone ends an operation
 pub record IsOperation (old new : WorldView) (client : ℕ) : Type 0 where
@@ -127,7 +136,8 @@ pub record IsOperation (old new : WorldView) (client : ℕ) : Type 0 where
 
 abbrev pub IsOpTurn : WorldView → WorldView → ℕ → Turn → Type 0
 IsOpTurn old new client turns.Idle = HasEnded old client true × (new ≡ old)
-IsOpTurn old new client turns.Went = HasEnded old client false × EndsOne old.seats new.seats client × IsOperation old new client
+IsOpTurn old new client turns.Went =
+    HasEnded old client false × EndsOne old.seats new.seats client × IsOperation old new client
 
 abbrev pub items_of : Schedule → List ℕ
 items_of (Items items) = items

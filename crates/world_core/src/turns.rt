@@ -27,6 +27,7 @@ ghost use Rattle.request_run.specs.Sound.{IsOpen};
 
 use crate::seats::{Seat, Work};
 use client_core::{ClientAnswer, ClientAsk, ClientState};
+use fs_base::limits::{ATTEMPTS, JOURNAL_ENTRIES};
 use fs_base::{Config, Items, Memory, Request};
 use kv_store::KvState;
 use meta_task::{MetaEntry, MetaTask};
@@ -55,8 +56,11 @@ fn take_work(seat: &mut Seat) -> Option<Work>
 /// The client's next step, where nothing is under way.
 fn next_step(seat: &mut Seat) -> Result<ClientAsk, Memory>
     requires { seat.old.client.request ≡ None }
-    ensures seat { OnOk result (seat.new ≡ record seat.old { client = (send seat.old.client (slice_get seat.old.client.script.ops seat.old.client.op)).0 }) }
-    ensures ask { IfOk result (λ ask. ask ≡ (send seat.old.client (slice_get seat.old.client.script.ops seat.old.client.op)).1) }
+    ensures seat { OnOk result
+        (seat.new ≡ record seat.old
+        { client = (send seat.old.client (slice_get seat.old.client.script.ops seat.old.client.op)).0 }) }
+    ensures ask { IfOk result
+        (λ ask. ask ≡ (send seat.old.client (slice_get seat.old.client.script.ops seat.old.client.op)).1) }
     ensures valid { IfOk result (λ ask. IsSending seat.old.client.config ask) }
     ensures script { seat.new.client.script ≡ seat.old.client.script }
 {
@@ -81,13 +85,15 @@ fn new_work(
     requires valid { IsRequest config request }
     requires small { request.client.0 < 2 ^ 128 }
     requires from { 1 ≤ attempts }
-    requires to { attempts ≤ 64 }
+    requires to { attempts ≤ ATTEMPTS }
     requires earlier { AreEarlier (entries_of store.now.journal) request }
-    ensures task { IfOk result (λ work. work.task ≡ record (new_task config attempts request) { waiting = waits.Beginning }) }
+    ensures task { IfOk result
+        (λ work. work.task ≡ record (new_task config attempts request) { waiting = waits.Beginning }) }
     ensures ask { IfOk result (λ work. work.ask ≡ asks.Begin) }
     ensures server { IfOk result (λ work. work.server ≡ server) }
     ensures front { IfOk result (λ work. work.front ≡ length (entries_of store.now.journal)) }
-    ensures served { IfOk result (λ work. IsReady config attempts (entries_of store.now.journal) request work.front work.task work.ask) }
+    ensures served { IfOk result
+        (λ work. IsReady config attempts (entries_of store.now.journal) request work.front work.task work.ask) }
 {
     let Serving { task, ask, front } = begin(alloc, store, config, attempts, request)?;
     Ok(Work {
@@ -109,13 +115,14 @@ pub(crate) fn start(
 ) -> Result<(), Memory>
     requires config { store.now.config ≡ config }
     requires from { 1 ≤ attempts }
-    requires to { attempts ≤ 64 }
+    requires to { attempts ≤ ATTEMPTS }
     requires seat { IsSeat config attempts (entries_of store.now.journal) k seat.old }
     requires left { has_ended seat.old.client ≡ false }
     ensures seat { OnOk result (IsSeat config attempts (entries_of store.now.journal) k seat.new) }
     ensures script { seat.new.client.script ≡ seat.old.client.script }
     ensures op { OnOk result (seat.new.client.op ≡ seat.old.client.op) }
-    ensures at_work { OnOk result (IsAtWork config attempts (length (entries_of store.now.journal)) seat.old seat.new seat.old.work) }
+    ensures at_work { OnOk result
+        (IsAtWork config attempts (length (entries_of store.now.journal)) seat.old seat.new seat.old.work) }
 {
     if seat.work.is_some() {
         return Ok(());
@@ -162,7 +169,9 @@ fn only(receipts: Items<Receipt>) -> Receipt
 fn learn(client: &mut ClientState, server: u8, outcome: Outcome) -> Result<Receipt, Memory>
     requires { (request : RequestView) × (client.old.request ≡ Some request) }
     ensures client { OnOk result (client.new ≡ (end_call client.old server outcome client.old.request).0) }
-    ensures receipt { IfOk result (λ receipt. client_asks.CallEnd (receipt ∷ []) true ≡ (end_call client.old server outcome client.old.request).1) }
+    ensures receipt { IfOk result
+        (λ receipt. client_asks.CallEnd (receipt ∷ []) true
+        ≡ (end_call client.old server outcome client.old.request).1) }
     ensures script { client.new.script ≡ client.old.script }
 {
     match client.next(ClientAnswer::Replied(server, outcome))? {
@@ -242,14 +251,20 @@ fn settle(alloc: Global, config: Config, k: u16, seat: &mut Seat, work: Work) ->
 /// One ask of a request.
 fn advance(alloc: Global, store: &mut KvState<MetaEntry>, work: Work) -> Result<Work, Memory>
     requires opened { IsOpen store.old }
-    requires served { IsServed store.old.config work.task.attempts (entries_of store.old.journal) work.task.request work.front work.task }
+    requires served { IsServed store.old.config work.task.attempts (entries_of store.old.journal) work.task.request
+        work.front work.task }
     requires pending { IsPending store.old.config work.task work.ask }
-    ensures served { IfOk result (λ new. IsReady store.old.config work.task.attempts (entries_of store.new.journal) work.task.request work.front new.task new.ask) }
-    ensures exchanged { IfOk result (λ new. IsExchange store.old.config (entries_of store.old.journal) (entries_of store.new.journal) work.task work.ask new.task new.ask) }
+    ensures served { IfOk result
+        (λ new. IsReady store.old.config work.task.attempts (entries_of store.new.journal) work.task.request
+        work.front new.task new.ask) }
+    ensures exchanged { IfOk result
+        (λ new. IsExchange store.old.config (entries_of store.old.journal) (entries_of store.new.journal)
+        work.task work.ask new.task new.ask) }
     ensures work { IfOk result (λ new. new ≡ record work { task = new.task; ask = new.ask }) }
     ensures grows { IsGrowth store.old store.new work.task.request.client }
-    ensures few { OnOk result (length store.new.journal ≤ 200000) }
-    ensures covered { AreCovered store.old.config (entries_of store.old.journal) → OnOk result (AreCovered store.old.config (entries_of store.new.journal)) }
+    ensures few { OnOk result (length store.new.journal ≤ JOURNAL_ENTRIES) }
+    ensures covered { AreCovered store.old.config (entries_of store.old.journal)
+        → OnOk result (AreCovered store.old.config (entries_of store.new.journal)) }
 {
     let Work {
         task,
@@ -280,8 +295,12 @@ fn go_on(
     requires seat { IsSeat config attempts (entries_of store.old.journal) k seat.old }
     requires covered { AreCovered config (entries_of store.old.journal) }
     requires there { (work : WorkView) × (seat.old.work ≡ Some work) }
-    ensures kept { OnOk result (IsSeat config attempts (entries_of store.new.journal) k seat.new × AreCovered config (entries_of store.new.journal) × (length store.new.journal ≤ 200000)) }
-    ensures exchanged { OnOk result (HasExchanged config k (entries_of store.old.journal) (entries_of store.new.journal) seat.old seat.new) }
+    ensures kept { OnOk result
+        (IsSeat config attempts (entries_of store.new.journal) k seat.new
+        × AreCovered config (entries_of store.new.journal) × (length store.new.journal ≤ JOURNAL_ENTRIES)) }
+    ensures exchanged { OnOk result
+        (HasExchanged config k (entries_of store.old.journal) (entries_of store.new.journal) seat.old
+        seat.new) }
     ensures script { seat.new.client.script ≡ seat.old.client.script }
     ensures step { IsGrowth store.old store.new seat.old.client.script.id }
 {
@@ -304,12 +323,16 @@ fn turn(
     requires config { store.old.config ≡ config }
     requires opened { IsOpen store.old }
     requires from { 1 ≤ attempts }
-    requires to { attempts ≤ 64 }
+    requires to { attempts ≤ ATTEMPTS }
     requires left { has_ended seat.old.client ≡ false }
     requires seat { IsSeat config attempts (entries_of store.old.journal) k seat.old }
     requires covered { AreCovered config (entries_of store.old.journal) }
-    ensures kept { OnOk result (IsSeat config attempts (entries_of store.new.journal) k seat.new × AreCovered config (entries_of store.new.journal) × (length store.new.journal ≤ 200000)) }
-    ensures event { OnOk result (IsEvent config attempts k (entries_of store.old.journal) (entries_of store.new.journal) seat.old seat.new) }
+    ensures kept { OnOk result
+        (IsSeat config attempts (entries_of store.new.journal) k seat.new
+        × AreCovered config (entries_of store.new.journal) × (length store.new.journal ≤ JOURNAL_ENTRIES)) }
+    ensures event { OnOk result
+        (IsEvent config attempts k (entries_of store.old.journal) (entries_of store.new.journal) seat.old
+        seat.new) }
     ensures script { seat.new.client.script ≡ seat.old.client.script }
     ensures step { IsGrowth store.old store.new seat.old.client.script.id }
 {
@@ -329,7 +352,7 @@ pub(crate) fn event(
     requires config { store.old.config ≡ config }
     requires begun { IsOpen store.old }
     requires from { 1 ≤ attempts }
-    requires to { attempts ≤ 64 }
+    requires to { attempts ≤ ATTEMPTS }
     requires distinct { AreDistinct (scripts_of seats.old.items) }
     requires within { k < length seats.old.items }
     requires left { (seat : SeatView) → slice_get seats.old.items k ≡ Some seat → has_ended seat.client ≡ false }
@@ -338,9 +361,11 @@ pub(crate) fn event(
     ensures scripts { scripts_of seats.new.items ≡ scripts_of seats.old.items }
     ensures config { store.new.config ≡ store.old.config }
     ensures begun { IsOpen store.new }
-    ensures step { (seat : SeatView) → slice_get seats.old.items k ≡ Some seat → IsGrowth store.old store.new seat.client.script.id }
+    ensures step { (seat : SeatView) → slice_get seats.old.items k ≡ Some seat
+        → IsGrowth store.old store.new seat.client.script.id }
     ensures goes { OnOk result (GoesOn seats.old.items seats.new.items k) }
-    ensures event { (before after : SeatView) → slice_get seats.old.items k ≡ Some before → slice_get seats.new.items k ≡ Some after
+    ensures event { (before after : SeatView) → slice_get seats.old.items k ≡ Some before
+        → slice_get seats.new.items k ≡ Some after
         → OnOk result (IsEvent config attempts k (entries_of store.old.journal) (entries_of store.new.journal) before after) }
 {
     turn(

@@ -13,6 +13,7 @@ use crate::record::record_of;
 use crate::seats::Seat;
 use crate::turns::event;
 use client_core::{ClientState, Plan, Schedule, Script};
+use fs_base::limits::OPERATIONS;
 use fs_base::{Config, Items, Memory};
 use kv_store::KvState;
 use meta_task::MetaEntry;
@@ -54,9 +55,24 @@ impl Model for World {
 
     ghost coded = { Prim.hlevel (codes, write_set.the_row.coded) };
 
-    ghost view = { λ w. record { config = w.config; attempts = w.attempts; objects = record { store = w.store; nodes = no_histories w.config.nodes }; seats = w.seats.items; schedule = w.schedule; failed = w.failed } };
+    ghost view = { λ w. record {
+      config = w.config;
+      attempts = w.attempts;
+      objects = record { store = w.store; nodes = no_histories w.config.nodes };
+      seats = w.seats.items;
+      schedule = w.schedule;
+      failed = w.failed;
+    } };
 
-    ghost invariant = { λ w. IsWorld (record { config = w.config; attempts = w.attempts; objects = record { store = w.store; nodes = no_histories w.config.nodes }; seats = w.seats.items; schedule = w.schedule; failed = w.failed }) };
+    ghost invariant = { λ w. IsWorld
+        (record {
+          config = w.config;
+          attempts = w.attempts;
+          objects = record { store = w.store; nodes = no_histories w.config.nodes };
+          seats = w.seats.items;
+          schedule = w.schedule;
+          failed = w.failed;
+        }) };
 }
 
 /// A store with the root directory alone.
@@ -140,14 +156,17 @@ impl World {
         })
     }
 
-    /// One turn of a client: at most one ask, answered by one object. `Idle` exactly where the client has nothing left.
+    /// One turn of a client: at most one ask, answered by one object. `Idle` exactly where the client has
+    /// nothing left.
     ///
-    /// Where no request of the client is under way, it sends its next one first; where the answer ends the request,
+    /// Where no request of the client is under way, it sends its next one first; where the answer ends the
+    /// request,
     /// the client learns it in the same turn. A world that wanted memory answers so from then on.
     pub fn turn(&mut self, client: u16) -> Result<Turn, Memory>
         requires { client < length self.old.seats }
         ensures turn { IfOk result (λ turn. IsTurn self.old self.new client turn) }
-        ensures step { (seat : SeatView) → slice_get self.old.seats client ≡ Some seat → IsStep self.old.objects self.new.objects seat.client.script.id }
+        ensures step { (seat : SeatView) → slice_get self.old.seats client ≡ Some seat
+            → IsStep self.old.objects self.new.objects seat.client.script.id }
         ensures plan { plan_of self.new ≡ plan_of self.old }
         ensures before { OnOk result (self.old.failed ≡ false) }
         ensures alive { OnOk result (self.new.failed ≡ false) }
@@ -172,7 +191,8 @@ impl World {
         Ok(Turn::Went)
     }
 
-    /// Turns of a client until the operation under way, or else its next one, has ended. `Idle` exactly where it has nothing left.
+    /// Turns of a client until the operation under way, or else its next one, has ended. `Idle` exactly where
+    /// it has nothing left.
     pub fn op(&mut self, client: u16) -> Result<Turn, Memory>
         requires { client < length self.old.seats }
         ensures turn { IfOk result (λ turn. IsOpTurn self.old self.new client turn) }
@@ -193,7 +213,8 @@ impl World {
 
     fn end_op(&mut self, client: u16) -> Result<(), Memory>
         requires { client < length self.old.seats }
-        ensures ended { OnOk result (EndsOne self.old.seats self.new.seats client × IsOperation self.old self.new client) }
+        ensures ended { OnOk result
+            (EndsOne self.old.seats self.new.seats client × IsOperation self.old self.new client) }
         ensures plan { plan_of self.new ≡ plan_of self.old }
         ensures alive { OnOk result (self.new.failed ≡ false) }
         ensures err { OnErr result (self.new.failed ≡ true) }
@@ -225,7 +246,8 @@ impl World {
     }
 
     fn take_schedule(&mut self) -> Result<(), Memory>
-        ensures items { OnOk result (AreItems (items_of self.old.schedule) self.old self.new (length (items_of self.old.schedule))) }
+        ensures items { OnOk result
+            (AreItems (items_of self.old.schedule) self.old self.new (length (items_of self.old.schedule))) }
         ensures plan { plan_of self.new ≡ plan_of self.old }
     {
         for place in 0..items_in(&self.schedule) {
@@ -237,7 +259,8 @@ impl World {
 
     /// A whole operation of each client that has one left.
     fn round(&mut self) -> Result<(), Memory>
-        ensures ahead { (rounds : ℕ) → AreAhead rounds self.old.seats → OnOk result (AreAhead (rounds + 1) self.new.seats) }
+        ensures ahead { (rounds : ℕ) → AreAhead rounds self.old.seats
+            → OnOk result (AreAhead (rounds + 1) self.new.seats) }
         ensures round { OnOk result (IsRound self.old self.new) }
         ensures plan { plan_of self.new ≡ plan_of self.old }
         ensures alive { self.old.failed ≡ false → OnOk result (self.new.failed ≡ false) }
@@ -276,14 +299,15 @@ impl World {
 
     /// Tells that clients which are so many operations ahead have nothing left. It does nothing.
     fn enough_rounds(&self)
-        requires ahead { AreAhead 4000 self.now.seats }
+        requires ahead { AreAhead OPERATIONS self.now.seats }
         requires alive { self.now.failed ≡ false }
         ensures { has_left self.now.seats ≡ false }
     {
         let _failed = self.failed;
     }
 
-    /// The plan's schedule, and then rounds until no client has anything left: in each, every client that has does one whole operation.
+    /// The plan's schedule, and then rounds until no client has anything left: in each, every client that has
+    /// does one whole operation.
     pub fn run(mut self) -> Result<Record, Memory>
         ensures right { IfOk result (λ run. IsRight (plan_of self) run) }
         ensures order { IfOk result (λ run. (last : WorldView) × IsOrdered self last × IsKept last run) }
