@@ -1,5 +1,5 @@
 -- The call of an operation within its ranges may be spelled.
-use Rattle.std.proofs.Common.{◌≡◌, ℕ, zero, suc, ◌-◌, ◌<◌, ◌≤◌, ◌^◌, ◌&&◌, nat_le, nat_lt, le-leb, lt-ltb, lit<, true, List, length, get_or, refl, subst, sym, arith}
+use Rattle.std.proofs.Common.{◌≡◌, ℕ, zero, suc, ◌-◌, ◌<◌, ◌≤◌, ◌^◌, ◌&&◌, nat_le, nat_lt, le-leb, lt-ltb, lit<, true, List, length, get_or, refl, arith}
 use Rattle.std.specs.Prelude.{Option, Some, None, IsTrue, IfSome}
 use Rattle.std.specs.Int.{w16, w32, w64, to_le_bytes}
 use Rattle.std.proofs.lemmas.Bool.{and_from}
@@ -10,14 +10,13 @@ use Rattle.fs_base.specs.declared.call.Changes.{Changes}
 use Rattle.fs_base.specs.declared.call.Place.{Place}
 use Rattle.fs_base.specs.declared.layout.DefaultLayout.{DefaultLayout}
 use Rattle.row_records.specs.Calls.{place, default_layout, made, changes, call, stamped_call, is_call}
-use Rattle.client_core.specs.Plans.{IsOp, IsPlace, IsLayout, IsChanges, IsScript}
+use Rattle.client_core.specs.Plans.{IsOp, IsPlace, IsLayout, IsChanges}
 use Rattle.client_core.specs.declared.plan.Op.{Op}
 use Rattle.client_core.specs.declared.plan.Op.TheVariants as ops
 use Rattle.fs_base.specs.Config.{Settings}
 use Rattle.fs_base.specs.declared.ids.ClientId.{ClientId}
 use Rattle.path_walk.specs.Requests.{IsRequest, is_built}
 use Rattle.client_core.specs.Ops.{call_of, request_of, stamp_of, HasBytes}
-use Rattle.client_core.specs.declared.plan.Script.{Script}
 
 -- ---- numbers
 

@@ -1,5 +1,5 @@
 -- Where each operation sends one request and no server stops, the numbers count the operations and all requests go home.
-use Rattle.std.proofs.Common.{◌≡◌, ℕ, ◌+◌, ◌≤◌, ◌<◌, List, [], ◌∷◌, Option, Some, None, length, refl, sym, ap, subst, ◌∙◌, arith}
+use Rattle.std.proofs.Common.{◌≡◌, ℕ, ◌+◌, ◌<◌, List, [], ◌∷◌, Option, Some, None, length, refl, sym, ap, subst, ◌∙◌, arith}
 use Rattle.std.specs.Prelude.{slice_get}
 use Rattle.std.proofs.lemmas.Option.{slice_get_within}
 use Rattle.fs_base.specs.Config.{Settings}
@@ -37,14 +37,20 @@ single_end c server outcome (Some request) is h =
     let within : c.op < length c.script.ops = slice_get_within c.script.ops c.op at.0 at.1 in
     record { script = h.script; at_home = h.at_home; none_gone = refl; place = (omega arith, at.3) }
 
-pub single_step : (c : ClientView) (answer : ClientAnswer) → IsClient c → Fits c.request answer → IsClient (client_step c answer).0
-single_step c (answers.Replied server outcome) h fits = single_end c server outcome c.request refl h
-single_step c answers.Start h fits = single_send c (slice_get c.script.ops c.op) refl h (none_by c.request fits)
+-- no stop took a request away
+abbrev IsNoStop : ClientAnswer → Type 0
+IsNoStop (answers.Gone server stop) = ⊥
+IsNoStop answer = Unit {0}
+
+pub single_step : (c : ClientView) (answer : ClientAnswer) → IsNoStop answer → IsClient c → Fits c.request answer → IsClient (client_step c answer).0
+single_step c (answers.Replied server outcome) on h fits = single_end c server outcome c.request refl h
+single_step c (answers.Gone server stop) on h fits = absurd on
+single_step c answers.Start on h fits = single_send c (slice_get c.script.ops c.op) refl h (none_by c.request fits)
   where
     none_by : (o : Option Request) → Fits o answers.Start → o ≡ None
     none_by None f = refl
     none_by (Some request) f = absurd f
-single_step c answers.Next h fits = single_send c (slice_get c.script.ops c.op) refl h (none_by c.request fits)
+single_step c answers.Next on h fits = single_send c (slice_get c.script.ops c.op) refl h (none_by c.request fits)
   where
     none_by : (o : Option Request) → Fits o answers.Next → o ≡ None
     none_by None f = refl

@@ -1,10 +1,9 @@
 -- A client's place in its script, and its steps.
-use Rattle.std.specs.Prelude.{◌≡◌, ◌≤◌, ◌<◌, ℕ, ◌+◌, nat_le, List, [], ◌∷◌, length, slice_get, is_some, Option, Some, None, Bool, true, false, if◌then◌else◌}
+use Rattle.std.specs.Prelude.{◌≡◌, ℕ, ◌+◌, ◌%◌, nat_le, List, [], ◌∷◌, ◌++◌, length, slice_get, is_some, Option, Some, None, Bool, true, false, if◌then◌else◌}
 use Rattle.fs_base.specs.Config.{Settings}
 use Rattle.fs_base.specs.declared.call.Request.{Request}
 use Rattle.path_walk.specs.Requests.{IsRequest}
 use Rattle.txn_task.specs.declared.outcome.Outcome.{Outcome}
-use Rattle.txn_task.specs.declared.outcome.Receipt.{Receipt}
 use Rattle.client_core.specs.Ops.{receipt_of, request_of}
 use Rattle.client_core.specs.declared.messages.ClientAnswer.{ClientAnswer}
 use Rattle.client_core.specs.declared.messages.ClientAnswer.TheVariants as answers
@@ -49,6 +48,7 @@ abbrev pub Fits : Option Request → ClientAnswer → Type 0
 Fits None answers.Start = Unit {0}
 Fits None answers.Next = Unit {0}
 Fits (Some request) (answers.Replied server outcome) = Unit {0}
+Fits (Some request) (answers.Gone server stop) = Unit {0}
 Fits under_way answer = ⊥
 
 -- ---- steps
@@ -75,9 +75,28 @@ end_call c server outcome (Some request) = (
       (receipt_of c.op request server c.gone outcome ∷ []) true,
 )
 
+-- the server behind this one, and behind the last one the first
+abbrev pub server_after : Settings → ℕ → ℕ
+server_after C server = (server + 1) % C.servers
+
+-- the same request, with its number, to another server
+abbrev pub sent_to : Request → ℕ → Request
+sent_to request server = record request { server = server }
+
+-- a stop took the request under way: it goes to the next server, where the client stays
+abbrev pub send_again : ClientView → ℕ × ℕ → Option Request → ClientView × ClientAsk
+send_again c stop None = (c, asks.Ended)
+send_again c stop (Some request) =
+    let next = server_after c.config c.server in (
+      record c { server = next; gone = c.gone ++ stop ∷ []; request = Some (sent_to request next) },
+      asks.Send
+          next (sent_to request next),
+    )
+
 -- the client behind its next ask, and the ask
 abbrev pub client_step : ClientView → ClientAnswer → ClientView × ClientAsk
 client_step c (answers.Replied server outcome) = end_call c server outcome c.request
+client_step c (answers.Gone server stop) = send_again c (server, stop) c.request
 client_step c answer = send c (slice_get c.script.ops c.op)
 
 -- a request that is sent is one that its server takes

@@ -26,6 +26,8 @@ pub enum ClientAnswer {
     Start,
     /// To `Send`: the server that did the request, and what it came to.
     Replied(u8, Outcome),
+    /// To `Send`: the server stopped before it answered, and this was its stop of that number, from 1.
+    Gone { server: u8, stop: u32 },
     /// To `CallEnd` and `Ended`.
     Next,
 }

@@ -1,12 +1,12 @@
-ghost use Rattle.std.specs.Prelude.{◌≡◌, None, false, true, option_map, slice_get, IfOk, IfSome, OnOk, OnErr};
+ghost use Rattle.std.specs.Prelude.{◌≡◌, ◌<◌, None, false, true, option_map, slice_get, IfOk, IfSome, OnOk, OnErr};
 ghost use Rattle.client_core.specs.Awaiting.{Awaits};
-ghost use Rattle.client_core.specs.Client.{client_step, end_call, has_ended, new_client, next_request, send, Fits, IsSending};
+ghost use Rattle.client_core.specs.Client.{client_step, end_call, has_ended, new_client, next_request, send, send_again, server_after, Fits, IsSending};
 ghost use Rattle.client_core.specs.Plans.{IsScript};
 ghost use Rattle.path_walk.specs.Requests.{IsRequest};
 
 use crate::messages::{ClientAnswer, ClientAsk};
 use crate::plan::Script;
-use crate::steps::{copy_of, receipts_of, request_of};
+use crate::steps::{copy_for, copy_of, receipts_of, request_of};
 use fs_base::{ClientId, Config, Items, Memory, Request};
 use std::alloc::Global;
 use std::marker::Model;
@@ -34,7 +34,7 @@ pub struct ClientState {
 
 impl Model for ClientState {
     ghost use Rattle.client_core.specs.Client.{ClientView};
-    ghost use Rattle.client_core.specs.Single.{IsClient};
+    ghost use Rattle.client_core.specs.Moved.{IsUnderWay};
 
     ghost Value = { ClientView };
 
@@ -49,7 +49,7 @@ impl Model for ClientState {
       failed = c.failed;
     } };
 
-    ghost invariant = { λ c. IsClient
+    ghost invariant = { λ c. IsUnderWay
         (record {
           config = c.config;
           script = c.script;
@@ -116,6 +116,10 @@ impl ClientState {
                 let ask = self.end_call(server, outcome)?;
                 Ok(ask)
             }
+            ClientAnswer::Gone { server, stop } => {
+                let ask = self.send_again(server, stop)?;
+                Ok(ask)
+            }
             _ => {
                 let ask = self.send()?;
                 Ok(ask)
@@ -162,6 +166,38 @@ impl ClientState {
         self.request = Some(copy);
         Ok(ClientAsk::Send {
             server: self.server,
+            request,
+        })
+    }
+
+    /// The one behind the present one.
+    fn next_server(&self) -> u8
+        ensures value { result ≡ server_after self.now.config self.now.server }
+        ensures below { result < self.now.config.servers }
+    {
+        let servers = self.config.servers();
+        (self.server + 1) % servers
+    }
+
+    /// Sends the request under way to the next server, since the one that had it stopped.
+    fn send_again(&mut self, server: u8, stop: u32) -> Result<ClientAsk, Memory>
+        ensures client { OnOk result (self.new ≡ (send_again self.old (server, stop) self.old.request).0) }
+        ensures ask { IfOk result (λ ask. ask ≡ (send_again self.old (server, stop) self.old.request).1) }
+        ensures valid { IfOk result (λ ask. IsSending self.old.config ask) }
+        ensures awaits { IfOk result (λ ask. Awaits self.new.request ask) }
+        ensures err { OnErr result (self.new ≡ self.old) }
+    {
+        let Some(request) = &self.request else {
+            return Ok(ClientAsk::Ended);
+        };
+        let next = self.next_server();
+        let request = copy_for(self.alloc, request, next)?;
+        let copy = copy_of(self.alloc, &request)?;
+        self.gone.push((server, stop))?;
+        self.server = next;
+        self.request = Some(copy);
+        Ok(ClientAsk::Send {
+            server: next,
             request,
         })
     }

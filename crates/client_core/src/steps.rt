@@ -2,6 +2,7 @@
 
 ghost use Rattle.std.specs.Prelude.{◌≡◌, ◌≤◌, ◌<◌, [], ◌∷◌, true, IfOk};
 ghost use Rattle.byte_fields.specs.Forms.{are_bytes};
+ghost use Rattle.client_core.specs.Client.{sent_to};
 ghost use Rattle.client_core.specs.Ops.{call_of, receipt_of, request_of, stamp_of, HasBytes};
 ghost use Rattle.client_core.specs.Plans.{IsOp};
 ghost use Rattle.path_walk.specs.Requests.{IsRequest};
@@ -138,6 +139,15 @@ pub(crate) fn request_of(
         stamp: stamp_of(step),
         call: call_of(alloc, step)?,
     })
+}
+
+/// The same request, to another server.
+pub(crate) fn copy_for(alloc: Global, request: &Request, server: u8) -> Result<Request, Memory>
+    ensures { IfOk result (λ copy. copy ≡ sent_to request.now server) }
+{
+    let mut copy = copy_of(alloc, request)?;
+    copy.server = server;
+    Ok(copy)
 }
 
 /// An equal request of its own.

@@ -16,6 +16,7 @@ pub struct Retry {
 
 impl Model for Retry {
     ghost use Rattle.std.specs.Prelude.{◌≤◌};
+    ghost use Rattle.fs_base.specs.declared.limits.TheConstants.{ATTEMPTS};
     ghost use Rattle.txn_task.specs.Tries.{Tries};
 
     ghost Value = { Tries };
