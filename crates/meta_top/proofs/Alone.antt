@@ -1,6 +1,6 @@
 -- With one client the receipts are the plain tree's replies, one call after another.
 use Rattle.std.proofs.Common.{◌≡◌, ℕ, suc, ◌+◌, ◌<◌, ◌≤◌, inl, inr, List, [], ◌∷◌, ◌++◌, Bool, true, false, cond, length, refl, sym, ap, subst, ◌∙◌, arith, add-one, MatchOption}
-use Rattle.std.specs.Prelude.{Option, Some, None, ⊤, IsTrue}
+use Rattle.std.specs.Prelude.{Option, Some, None, ⊤}
 use Rattle.std.specs.FinMap.{get, get-empty}
 use Rattle.std.specs.Ordering.{nat_cmp}
 use Rattle.std.proofs.lemmas.Bool.{cases_Bool}
@@ -25,7 +25,6 @@ use Rattle.client_core.specs.Ops.{call_of}
 use Rattle.client_core.specs.Plans.{IsPlan, ops_in}
 use Rattle.client_core.specs.Single.{single_request}
 use Rattle.client_core.specs.declared.plan.Op.{Op}
-use Rattle.client_core.specs.declared.plan.Op.TheVariants as ops
 use Rattle.client_core.specs.declared.plan.Plan.{Plan}
 use Rattle.client_core.specs.declared.plan.Script.{Script}
 use Rattle.histories.proofs.Versions.{reply_at, tree_next}

@@ -1,7 +1,7 @@
 -- What the program is to write, by its status.
 use Rattle.std.specs.Prelude.{◌≡◌, ◌⊎◌, ℕ, ◌<◌, List, [], ◌∷◌, length, take, Bool, false, IsTrue, Option, Ok, Err, codes, String, string_bytes}
 use Rattle.std.specs.Str.{bytes_eq}
-use Rattle.std.specs.Io.KnownBytes.{Appends, Consumes, IsAtEnd, Keeps}
+use Rattle.std.specs.Io.KnownBytes.{Appends, Consumes, IsAtEnd}
 use Rattle.std.specs.declared.alloc.Global.{Global}
 use Rattle.fs_io.specs.Causes.{Rose}
 use Rattle.fs_io.specs.Reading.{ReadsToEnd}
@@ -30,6 +30,7 @@ usage_line =
     line (codes "usage:" ∷ codes "fs3meta" ∷ codes "check," ∷ codes "step," ∷ codes "run," ∷ codes "audit,"
     ∷ codes "make" ∷ [])
 
+-- the rule that the input breaks first, and where
 abbrev pub bad_line : Broken → List ℕ
 bad_line broken =
     line (codes "bad" ∷ setting (codes "rule=") broken.rule ∷ setting (codes "place=") broken.place ∷ [])
@@ -49,7 +50,9 @@ pub record IsRunOf (plan : Plan) (text : List ℕ) : Type 0 where
   pub alone : (script : Script) → plan.clients ≡ script ∷ [] → run.receipts ≡ receipts_of plan.config script
   pub written : text ≡ replies_text run
 
--- the input reads as a plan, and the text is that of its run
+-- ---- texts that are due
+
+-- the input was read to its end, it spells a plan, and the text is that of its run
 pub record IsRun (old new : Option (List ℕ)) (text : List ℕ) : Type 0 where
   pub bytes : List ℕ
   pub whole : ReadsToEnd old new bytes SCENARIO_BYTES
@@ -66,68 +69,66 @@ pub record IsBad (old new : Option (List ℕ)) (text : List ℕ) : Type 0 where
   pub breaks : scenario_of bytes ≡ Err broken
   pub written : text ≡ bad_line broken
 
--- what the bytes of the whole input call for
-abbrev pub CallsFor : List ℕ → Status → List ℕ → Type 0
-CallsFor bytes status.Ok text = (plan : Plan) × (scenario_of bytes ≡ Ok plan) × IsRunOf plan text
-CallsFor bytes status.AuditNo text = ⊥
-CallsFor bytes status.Usage text = ⊥
-CallsFor bytes status.Bad text =
-    (broken : Broken) × (scenario_of bytes ≡ Err broken) × (text ≡ bad_line broken)
-CallsFor bytes status.ReadFault text = ⊥
-CallsFor bytes status.WriteFault text = ⊥
-CallsFor bytes status.Memory text = ⊥
-
 -- the text that goes with a status
 abbrev pub IsDue : List (String Global) → Option (List ℕ) → Option (List ℕ) → Status → List ℕ → Type 0
 IsDue words old new status.Ok text = IsTrue (is_step words) × IsRun old new text
-IsDue words old new status.AuditNo text = ⊥
 IsDue words old new status.Usage text = (is_step words ≡ false) × (text ≡ usage_line)
 IsDue words old new status.Bad text = IsTrue (is_step words) × IsBad old new text
-IsDue words old new status.ReadFault text = ⊥
-IsDue words old new status.WriteFault text = ⊥
-IsDue words old new status.Memory text = ⊥
+IsDue words old new _ text = ⊥
 
--- all of a due text is written
-pub record WritesAll (due : List ℕ → Type 0) (old new : Option (List ℕ)) : Type 0 where
+-- ---- what is written
+
+-- the text of a run of the plan that the input spells, whole
+pub record WritesRun (words : List (String Global)) (old new before after : Option (List ℕ)) : Type 0 where
+  pub step : IsTrue (is_step words)
   pub text : List ℕ
-  pub is_due : due text
-  pub written : Appends old new text
+  pub run : IsRun old new text
+  pub written : Appends before after text
 
--- a front of the due text of some status is written, and not all of it
-pub record WritesFront (due : Status → List ℕ → Type 0) (old new : Option (List ℕ)) : Type 0 where
+-- the rule that the input breaks, whole
+pub record WritesRule (words : List (String Global)) (old new before after : Option (List ℕ)) : Type 0 where
+  pub step : IsTrue (is_step words)
+  pub text : List ℕ
+  pub bad : IsBad old new text
+  pub written : Appends before after text
+
+-- the usage line, whole
+pub record WritesUsage (words : List (String Global)) (before after : Option (List ℕ)) : Type 0 where
+  pub other : is_step words ≡ false
+  pub written : Appends before after usage_line
+
+-- a front of one of these three, and not all of it
+pub record WritesFront (words : List (String Global)) (old new before after : Option (List ℕ)) : Type 0 where
   pub status : Status
   pub text : List ℕ
-  pub is_due : due status text
+  pub is_due : IsDue words old new status text
   pub count : ℕ
   pub short : count < length text
-  pub written : Appends old new (take count text)
+  pub written : Appends before after (take count text)
 
--- what the program writes at each status
-abbrev pub Writes : (Status → List ℕ → Type 0) → Option (List ℕ) → Option (List ℕ) → Status → Type 0
-Writes due old new status.Ok = WritesAll (due status.Ok) old new
-Writes due old new status.AuditNo = WritesAll (due status.AuditNo) old new
-Writes due old new status.Usage = WritesAll (due status.Usage) old new
-Writes due old new status.Bad = WritesAll (due status.Bad) old new
-Writes due old new status.ReadFault = Keeps old new
-Writes due old new status.WriteFault = WritesFront due old new
-Writes due old new status.Memory = Keeps old new
+-- the source failed, or memory ran out
+abbrev pub IsSilent : Status → Type 0
+IsSilent status.ReadFault = Unit {0}
+IsSilent status.Memory = Unit {0}
+IsSilent _ = ⊥
+
+-- ---- faults of the outside
 
 -- a read that failed is told: the source's count of faults rose there, and else it is as it was
 abbrev pub TellsReadFault : ℕ → ℕ → Status → Type 0
-TellsReadFault before now status.Ok = now ≡ before
-TellsReadFault before now status.AuditNo = now ≡ before
-TellsReadFault before now status.Usage = now ≡ before
-TellsReadFault before now status.Bad = now ≡ before
 TellsReadFault before now status.ReadFault = Rose before now
-TellsReadFault before now status.WriteFault = now ≡ before
-TellsReadFault before now status.Memory = now ≡ before
+TellsReadFault before now _ = now ≡ before
 
 -- a write that failed is told likewise
 abbrev pub TellsWriteFault : ℕ → ℕ → Status → Type 0
-TellsWriteFault before now status.Ok = now ≡ before
-TellsWriteFault before now status.AuditNo = now ≡ before
-TellsWriteFault before now status.Usage = now ≡ before
-TellsWriteFault before now status.Bad = now ≡ before
-TellsWriteFault before now status.ReadFault = now ≡ before
 TellsWriteFault before now status.WriteFault = Rose before now
-TellsWriteFault before now status.Memory = now ≡ before
+TellsWriteFault before now _ = now ≡ before
+
+-- ---- on the way to it
+
+-- what the bytes of the whole input call for
+abbrev pub CallsFor : List ℕ → Status → List ℕ → Type 0
+CallsFor bytes status.Ok text = (plan : Plan) × (scenario_of bytes ≡ Ok plan) × IsRunOf plan text
+CallsFor bytes status.Bad text =
+    (broken : Broken) × (scenario_of bytes ≡ Err broken) × (text ≡ bad_line broken)
+CallsFor bytes _ text = ⊥

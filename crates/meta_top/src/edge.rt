@@ -1,10 +1,11 @@
 //! What `main` calls, with all that it would else decide.
 
-ghost use Rattle.std.specs.Prelude.{◌≡◌, false, drop, IsTrue, IsErr, IfOk};
+ghost use Rattle.std.specs.Prelude.{◌≡◌, ◌≢◌, false, drop, IsTrue, IsErr, IfOk};
+ghost use Rattle.std.specs.Io.KnownBytes.{Keeps};
 ghost use Rattle.std.specs.Process.{exit_status};
 ghost use Rattle.std.specs.Vec.Iter.{into_iter_items};
 ghost use Rattle.meta_top.specs.Command.{exit_number, words_of, LacksMemory};
-ghost use Rattle.meta_top.specs.Top.{is_step, IsDue, TellsReadFault, TellsWriteFault, Writes};
+ghost use Rattle.meta_top.specs.Top.{is_step, IsSilent, TellsReadFault, TellsWriteFault, WritesFront, WritesRule, WritesRun, WritesUsage};
 
 use crate::top::{Status, plain_main};
 use fs_base::Memory;
@@ -24,8 +25,18 @@ pub fn command<I: Source, O: Sink>(
     input: &mut I,
     output: &mut O,
 ) -> Status
-    ensures writes { Writes (IsDue (words_of came) (I.left input.old) (I.left input.new))
-        (O.written output.old) (O.written output.new) result }
+    ensures ok { result ≡ Status.Ok
+        → WritesRun (words_of came) (I.left input.old) (I.left input.new)
+        (O.written output.old) (O.written output.new) }
+    ensures bad { result ≡ Status.Bad
+        → WritesRule (words_of came) (I.left input.old) (I.left input.new)
+        (O.written output.old) (O.written output.new) }
+    ensures usage { result ≡ Status.Usage → WritesUsage (words_of came) (O.written output.old) (O.written output.new) }
+    ensures front { result ≡ Status.WriteFault
+        → WritesFront (words_of came) (I.left input.old) (I.left input.new)
+        (O.written output.old) (O.written output.new) }
+    ensures silent { IsSilent result → Keeps (O.written output.old) (O.written output.new) }
+    ensures no_audit { result ≢ Status.AuditNo }
     ensures untouched { is_step (words_of came) ≡ false → input.new ≡ input.old }
     ensures read_words { result ≡ Status.ReadFault → IsTrue (is_step (words_of came)) }
     ensures read_cause { TellsReadFault (I.faults input.old) (I.faults input.new) result }

@@ -1,7 +1,8 @@
-ghost use Rattle.std.specs.Prelude.{◌≡◌, ◌∷◌, [], false, IsTrue, IfOk, IfErr, Err, string_bytes};
+ghost use Rattle.std.specs.Prelude.{◌≡◌, ◌≢◌, ◌∷◌, [], false, IsTrue, IfOk, IfErr, Err, string_bytes};
+ghost use Rattle.std.specs.Io.KnownBytes.{Keeps};
 ghost use Rattle.fs_io.specs.Reading.{TellsFault};
 ghost use Rattle.client_core.specs.Plans.{IsPlan};
-ghost use Rattle.meta_top.specs.Top.{is_step, usage_line, bad_line, IsRunOf, IsDue, CallsFor, TellsReadFault, TellsWriteFault, Writes};
+ghost use Rattle.meta_top.specs.Top.{is_step, usage_line, bad_line, IsRunOf, IsDue, IsSilent, CallsFor, TellsReadFault, TellsWriteFault, WritesFront, WritesRule, WritesRun, WritesUsage};
 
 use client_core::Plan;
 use fs_base::Memory;
@@ -41,12 +42,27 @@ pub fn plain_main<I: Source, O: Sink>(
     input: &mut I,
     output: &mut O,
 ) -> Status
-    // What is written at each status. At `Ok` the source's bytes read as a plan, and the text is that of a
-    // record which
-    // is right for the plan: its entries are a history of the plain tree, and each receipt is owed to them.
-    // At `Bad` the text names the first broken rule.
-    ensures writes { Writes (IsDue words.now (I.left input.old) (I.left input.new))
-        (O.written output.old) (O.written output.new) result }
+    // At `Ok` the source's bytes spell a plan, and all of the text of a run is written that is right for it.
+    ensures ok { result ≡ Status.Ok
+        → WritesRun words.now (I.left input.old) (I.left input.new)
+        (O.written output.old) (O.written output.new) }
+
+    // At `Bad` they break a rule, and the line that names the first one is written.
+    ensures bad { result ≡ Status.Bad
+        → WritesRule words.now (I.left input.old) (I.left input.new)
+        (O.written output.old) (O.written output.new) }
+
+    // At `Usage` the words ask for nothing that is built, and the usage line is written.
+    ensures usage { result ≡ Status.Usage → WritesUsage words.now (O.written output.old) (O.written output.new) }
+
+    // Where a write failed, a front of one of these three is written.
+    ensures front { result ≡ Status.WriteFault
+        → WritesFront words.now (I.left input.old) (I.left input.new)
+        (O.written output.old) (O.written output.new) }
+
+    // Where the source failed or memory ran out, nothing is. No run ends with an audit's answer.
+    ensures silent { IsSilent result → Keeps (O.written output.old) (O.written output.new) }
+    ensures no_audit { result ≢ Status.AuditNo }
 
     // Words are looked at before anything is read.
     ensures untouched { is_step words.now ≡ false → input.new ≡ input.old }
