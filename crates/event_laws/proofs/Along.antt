@@ -7,8 +7,9 @@ use Rattle.fs_base.specs.Config.{Settings}
 use Rattle.client_core.specs.declared.plan.Plan.{Plan}
 use Rattle.client_core.specs.declared.plan.Script.{Script}
 use Rattle.world_core.specs.EventList.{AreEvents, Event}
-use Rattle.world_core.specs.World.{HasGone, IsOpening, WorldView, new_seat, plan_of, seats_of}
-use Rattle.world_core.specs.declared.seats.Seat.{Seat}
+use Rattle.seat_turns.specs.Seats.{new_seat, seats_of}
+use Rattle.world_core.specs.World.{HasGone, IsOpening, WorldView, plan_of}
+use Rattle.seat_turns.specs.declared.seats.Seat.{Seat}
 use Rattle.event_laws.proofs.Places.{there}
 
 -- a client that has done nothing

@@ -3,8 +3,8 @@ use Rattle.std.proofs.Common.{◌≡◌, ◌≢◌, ℕ, ◌⊎◌, Bool, true, 
 use Rattle.std.specs.Prelude.{MatchBool, slice_get}
 use Rattle.std.proofs.lemmas.Bool.{cases_Bool, eq-eqb, ne_eqb}
 use Rattle.world_core.specs.EventList.{Event}
-use Rattle.world_core.specs.declared.seats.Seat.{Seat}
-use Rattle.world_core.specs.declared.seats.Work.{Work}
+use Rattle.seat_turns.specs.declared.seats.Seat.{Seat}
+use Rattle.seat_turns.specs.declared.seats.Work.{Work}
 use Rattle.event_laws.specs.Moments.{IsAmong, IsLengthAt, has_work, is_of}
 
 -- ---- elements

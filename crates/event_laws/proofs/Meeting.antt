@@ -6,10 +6,10 @@ use Rattle.txn_task.specs.declared.messages.Answer.TheVariants as answers
 use Rattle.client_core.specs.declared.plan.Plan.{Plan}
 use Rattle.request_run.specs.Entries.{entries_of}
 use Rattle.world_core.specs.EventList.{AreEvents, Event}
-use Rattle.world_core.specs.Events.{IsEvent}
+use Rattle.seat_turns.specs.Events.{IsEvent}
 use Rattle.world_core.specs.World.{IsOpening, WorldView}
-use Rattle.world_core.specs.declared.seats.Seat.{Seat}
-use Rattle.world_core.specs.declared.seats.Work.{Work}
+use Rattle.seat_turns.specs.declared.seats.Seat.{Seat}
+use Rattle.seat_turns.specs.declared.seats.Work.{Work}
 use Rattle.event_laws.specs.Moments.{IsAmong, IsMetIn, is_free}
 use Rattle.event_laws.proofs.Along.{along}
 use Rattle.event_laws.proofs.Lengths.{among_push, of_other, of_own}

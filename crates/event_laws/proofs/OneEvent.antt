@@ -20,10 +20,10 @@ use Rattle.client_core.specs.declared.messages.ClientAsk.TheVariants as client_a
 use Rattle.run_record.specs.Receipts.{fronts_of, outcome_of}
 use Rattle.run_record.specs.declared.run.Listed.{Listed}
 use Rattle.request_run.specs.Answered.{IsAnswer}
-use Rattle.world_core.specs.Events.{Comes, HasLearned, IsAtWork}
-use Rattle.world_core.specs.Ready.{is_done}
-use Rattle.world_core.specs.declared.seats.Seat.{Seat}
-use Rattle.world_core.specs.declared.seats.Work.{Work}
+use Rattle.seat_turns.specs.Events.{Comes, HasLearned, IsAtWork}
+use Rattle.seat_turns.specs.Ready.{is_done}
+use Rattle.seat_turns.specs.declared.seats.Seat.{Seat}
+use Rattle.seat_turns.specs.declared.seats.Work.{Work}
 use Rattle.event_laws.specs.Moments.{is_begin, next_ask}
 
 -- ---- the request whose ask is answered

@@ -4,10 +4,10 @@ use Rattle.std.specs.Prelude.{slice_get}
 use Rattle.run_record.specs.declared.run.Listed.{Listed}
 use Rattle.request_run.specs.Entries.{entries_of}
 use Rattle.world_core.specs.EventList.{Event}
-use Rattle.world_core.specs.Events.{IsEvent}
-use Rattle.world_core.specs.Ready.{is_done}
+use Rattle.seat_turns.specs.Events.{IsEvent}
+use Rattle.seat_turns.specs.Ready.{is_done}
 use Rattle.world_core.specs.World.{HasGone}
-use Rattle.world_core.specs.declared.seats.Seat.{Seat}
+use Rattle.seat_turns.specs.declared.seats.Seat.{Seat}
 use Rattle.event_laws.specs.Laws.{ReceiptsAreTold}
 use Rattle.event_laws.specs.Moments.{HasTold, IsAmong, IsToldIn}
 use Rattle.event_laws.proofs.Along.{along}

@@ -10,10 +10,10 @@ use Rattle.run_record.specs.declared.run.Listed.{Listed}
 use Rattle.request_run.specs.Entries.{entries_of}
 use Rattle.request_run.proofs.Rows.{length_entries}
 use Rattle.world_core.specs.EventList.{AreEvents, Event}
-use Rattle.world_core.specs.Kept.{IsSeat, version_after}
+use Rattle.seat_turns.specs.Kept.{IsSeat, version_after}
 use Rattle.world_core.specs.Objects.{IsStep, Objects}
 use Rattle.world_core.specs.World.{HasGone, WorldView}
-use Rattle.world_core.specs.declared.seats.Seat.{Seat}
+use Rattle.seat_turns.specs.declared.seats.Seat.{Seat}
 use Rattle.event_laws.proofs.Places.{there}
 use Rattle.event_laws.specs.Laws.{RepliesRise}
 use Rattle.event_laws.specs.Moments.{HasTold, IsAmong, IsLengthAt, begins_call, events_before}

@@ -6,10 +6,10 @@ use Rattle.client_core.specs.declared.plan.Plan.{Plan}
 use Rattle.request_run.specs.Entries.{entries_of}
 use Rattle.request_run.proofs.Rows.{length_entries}
 use Rattle.world_core.specs.EventList.{AreEvents, Event}
-use Rattle.world_core.specs.Events.{IsEvent}
+use Rattle.seat_turns.specs.Events.{IsEvent}
 use Rattle.world_core.specs.World.{IsOpening, WorldView}
-use Rattle.world_core.specs.declared.seats.Seat.{Seat}
-use Rattle.world_core.specs.declared.seats.Work.{Work}
+use Rattle.seat_turns.specs.declared.seats.Seat.{Seat}
+use Rattle.seat_turns.specs.declared.seats.Work.{Work}
 use Rattle.event_laws.specs.Moments.{IsLengthAt, begins_attempt, begins_call, is_begin, is_beginning, is_free}
 use Rattle.event_laws.proofs.Along.{along}
 use Rattle.event_laws.proofs.Lengths.{at_earlier, at_newest, of_other, of_own}

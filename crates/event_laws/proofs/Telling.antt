@@ -22,9 +22,9 @@ use Rattle.request_run.specs.Answered.{IsAnswer}
 use Rattle.request_run.specs.Entries.{entries_of}
 use Rattle.request_run.proofs.Rows.{length_entries}
 use Rattle.world_core.specs.EventList.{Event}
-use Rattle.world_core.specs.Events.{IsEvent}
-use Rattle.world_core.specs.Ready.{is_done}
-use Rattle.world_core.specs.declared.seats.Seat.{Seat}
+use Rattle.seat_turns.specs.Events.{IsEvent}
+use Rattle.seat_turns.specs.Ready.{is_done}
+use Rattle.seat_turns.specs.declared.seats.Seat.{Seat}
 use Rattle.event_laws.proofs.Places.{there}
 use Rattle.world_core.proofs.Closing.{same_seats}
 use Rattle.event_laws.specs.Laws.{BeginsAreFresh, ConflictsAreLater, ConflictsWereMet, EndsWith, EventsAsk, FrontsBeginCalls, IsLater, UncommittedRepliesAreBegun, UndisturbedAttemptsMeetNone}

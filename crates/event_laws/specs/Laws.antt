@@ -17,7 +17,7 @@ use Rattle.request_run.specs.Entries.{entries_of}
 use Rattle.world_core.specs.EventList.{AreEvents, Event}
 use Rattle.world_core.specs.Order.{IsOrdered}
 use Rattle.world_core.specs.World.{HasGone, IsOpening, WorldView}
-use Rattle.world_core.specs.declared.seats.Seat.{Seat}
+use Rattle.seat_turns.specs.declared.seats.Seat.{Seat}
 use Rattle.event_laws.specs.Moments.{HasAsked, HasTold, IsAmong, IsLengthAt, IsMetIn, IsToldIn, begins_attempt, begins_call, events_before, next_ask}
 
 -- ---- lists of events

@@ -9,9 +9,9 @@ use Rattle.txn_task.specs.declared.messages.Entry.{Entry}
 use Rattle.run_record.specs.declared.run.Listed.{Listed}
 use Rattle.request_run.specs.Entries.{entries_of}
 use Rattle.world_core.specs.EventList.{Event}
-use Rattle.world_core.specs.Events.{IsEvent}
-use Rattle.world_core.specs.declared.seats.Seat.{Seat}
-use Rattle.world_core.specs.declared.seats.Work.{Work}
+use Rattle.seat_turns.specs.Events.{IsEvent}
+use Rattle.seat_turns.specs.declared.seats.Seat.{Seat}
+use Rattle.seat_turns.specs.declared.seats.Work.{Work}
 
 -- ---- what a client's next event does first
 

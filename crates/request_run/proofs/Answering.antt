@@ -18,6 +18,7 @@ use Rattle.kv_store.specs.Later.{IsFirst}
 use Rattle.kv_store.specs.Store.{Store}
 use Rattle.kv_store.specs.declared.store.CommitError.{CommitError}
 use Rattle.kv_store.specs.declared.store.CommitError.TheVariants as errors
+use Rattle.kv_store.proofs.HoldLemmas.{same_key}
 use Rattle.kv_store.proofs.LaterLemmas.{first_later_first}
 use Rattle.meta_task.specs.declared.entry.MetaEntry.{MetaEntry}
 use Rattle.path_walk.specs.Sound.{IsSoundEntry}
@@ -30,7 +31,6 @@ use Rattle.run_record.specs.Legal.{journal_rows, reads_of, writes_of}
 use Rattle.request_run.specs.Entries.{entries_of, with_entry}
 use Rattle.request_run.specs.Answered.{IsKeyed}
 use Rattle.request_run.specs.Sound.{IsOpen, IsSoundJournal}
-use Rattle.request_run.proofs.Covered.{equal_key}
 use Rattle.request_run.proofs.Rows.{length_entries, later_same, rows_same, writer_same}
 
 -- the rows at a version
@@ -57,7 +57,7 @@ written_is_valid : (writes : List Write) (key : List ℕ) → HaveValidKeys writ
 written_is_valid [] key valid is = absurd (let f : false ≡ true = is in cc)
 written_is_valid (write ∷ writes) key valid is =
     elim (or_cases (is_eq (key_cmp key write.key)) (is_written_key writes key) is) [
-      | inl here ↦ (valid.0.0, (valid.0.1, sym (equal_key key write.key here ∙ valid.0.2)))
+      | inl here ↦ (valid.0.0, (valid.0.1, sym valid.0.2 ∙ same_key key write.key here))
       | inr later ↦ written_is_valid writes key valid.1 later
     ]
 

@@ -15,7 +15,7 @@ use Rattle.key_schema.specs.declared.key.Key.{Key}
 use Rattle.kv_store.specs.Journal.{first_later, last_writer}
 use Rattle.kv_store.specs.Store.{Store}
 use Rattle.path_walk.specs.Footprint.{footprint}
-use Rattle.path_walk.specs.Owed.{HasRead, MayAsk}
+use Rattle.path_walk.specs.Owed.{HasRead}
 use Rattle.tree_model.specs.Calls.{is_query}
 use Rattle.txn_task.specs.Transactions.{with_key, with_range}
 use Rattle.txn_task.specs.declared.messages.Answer.{Answer}
@@ -31,13 +31,14 @@ use Rattle.meta_task.specs.declared.waiting.Waiting.TheVariants as waits
 use Rattle.histories.proofs.Lists.{at_cases, at_new, at_within}
 use Rattle.run_record.specs.Legal.{EntryAt, journal_rows, writes_of}
 use Rattle.run_record.specs.Outcomes.{version_before, AreAttempts, MayTell, Shows}
-use Rattle.run_record.specs.Receipts.{AreConflicts, IsConflict}
+use Rattle.run_record.specs.Receipts.{IsConflict}
 use Rattle.run_record.proofs.Rising.{last_version_above}
 use Rattle.request_run.specs.Answered.{HasKey, IsAnswer, IsExchange, IsSpelled, MayAnswer}
 use Rattle.request_run.specs.Entries.{IsGrowth, entries_of, with_entry}
 use Rattle.request_run.specs.Served.{AreCovered, AreEarlier, CameTo, HasMet, IsBegun, IsCovered, IsOwn, IsPending, IsReady, IsServed, last_version}
 use Rattle.request_run.specs.Sound.{IsOpen, IsSoundJournal}
-use Rattle.request_run.proofs.Conflicts.{AreConflicts-push, conflict_named, last_version-push, later_above, version_before-push}
+use Rattle.run_record.proofs.OneMore.{AreConflicts-push, last_version-push, version_before-push}
+use Rattle.request_run.proofs.Conflicts.{conflict_named, later_above}
 use Rattle.request_run.proofs.Covered.{KeysAgree-push, RangesAgree-push, covered_key, covered_range}
 use Rattle.request_run.proofs.Ending.{HasNone, came_kept, came_made, came_seen, came_told, none_sound}
 use Rattle.request_run.proofs.Growing.{HasMet-longer}
@@ -48,23 +49,19 @@ use Rattle.request_run.proofs.Rows.{entries-push}
 -- a request whose task is new
 pub begins : (C : Settings) (attempts : ℕ) (journal : List Entry) (request : Request) → 1 ≤ attempts → request.client.0 < 2 ^ 128 → AreEarlier journal request
     → IsReady C attempts journal request (length journal) (record (new_task C attempts request) { waiting = waits.Beginning }) asks.Begin
-begins C attempts journal request some small earlier = (
-  record {
-    config = refl;
-    attempts_are = refl;
-    request_is = refl;
-    met = record {
-      small = small;
-      front_in = omega arith;
-      before = λ place e at mine l. earlier place e at mine;
-      since = λ place e at mine l. absurd (let within : place < length journal = at_within journal place e at in omega arith);
-      conflicts_are = (tt, tt);
-      last = omega arith;
-    };
-    begun = λ b. absurd (let f : false ≡ true = b in cc);
-  },
-  (refl, refl, some),
-)
+begins C attempts journal request some small earlier =
+    (record { config = refl; attempts_are = refl; request_is = refl; met = met; begun = λ b. absurd (cc) }, (refl, refl, some))
+  where
+    met : HasMet C journal request (length journal) []
+    met =
+        record {
+          small = small;
+          front_in = omega arith;
+          before = λ place e at mine l. earlier place e at mine;
+          since = λ place e at mine l. absurd (omega (arith, at_within journal place e at));
+          conflicts_are = (tt, tt);
+          last = omega arith;
+        }
 
 -- ---- the ends of a task
 
@@ -168,34 +165,24 @@ module _ (journal : List Entry) (front : ℕ) (task : TaskView) (s : IsSoundJour
   -- the snapshot is the newest version
   goes_begun : (version : ℕ) → version ≡ length journal → length task.conflicts < task.attempts → Goes journal (learnt task (answers.Begun version))
   goes_begun version is left =
-      record {
-        config = refl;
-        attempts_are = refl;
-        request_is = refl;
-        met = h.met;
-        begun = λ b. (
+      record { config = refl; attempts_are = refl; request_is = refl; met = h.met; begun = λ b. (new, left) }
+    where
+      new : IsBegun task.config journal task.request floor version (learnt task (answers.Begun version)).reads
+      new =
           record {
             from = omega (arith, h.met.last);
             within = omega arith;
             agrees = record { keys = tt; ranges = tt };
             covered = λ S good agrees. (tt, tt);
-            own = λ place e at mine. (let l : place < length journal = at_within journal place e at in omega arith);
-          },
-          left,
-        );
-      }
+            own = λ place e at mine. omega (arith, at_within journal place e at);
+          }
 
   -- more was read
   goes_read : (reads : ReadSet) → task.begun ≡ true → bytes.Agrees rows reads → IsCovered task.config task.request reads → Goes journal (record task { reads = reads })
   goes_read reads begun agrees covered =
       let b = h.begun begun in
-      record {
-        config = refl;
-        attempts_are = refl;
-        request_is = refl;
-        met = h.met;
-        begun = λ _. (record { from = b.0.from; within = b.0.within; agrees = agrees; covered = covered; own = b.0.own }, b.1);
-      }
+      let now : IsBegun task.config journal task.request floor task.snapshot reads = assumption (b.0, agrees, covered) in
+      record { config = refl; attempts_are = refl; request_is = refl; met = h.met; begun = λ _. (now, b.1) }
 
   goes_got : (key : Key) (got : Got) → IsSpellable key → IsPending task.config task (asks.Get key) → got.value ≡ value_at_key rows (spelled_key key) → Goes journal (learnt task (answers.Got got))
   goes_got key got spelled (waiting, begun, may) value =

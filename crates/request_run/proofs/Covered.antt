@@ -4,7 +4,7 @@ use Rattle.std.specs.Prelude.{Option, ◌==◌, length, if◌then◌else◌}
 use Rattle.std.specs.List.{list_any}
 use Rattle.std.specs.Ordering.{is_eq, is_lt, is_ge, is_le}
 use Rattle.std.specs.declared.cmp.Ordering.TheVariants.{Less, Greater}
-use Rattle.std.proofs.lemmas.Bool.{or_cases}
+use Rattle.std.proofs.lemmas.Bool.{and_from, and_parts, or_cases}
 use Rattle.conflict_sets.specs.Keys.{key_cmp}
 use Rattle.conflict_sets.specs.Reads as bytes
 use Rattle.conflict_sets.specs.Reads.{KeysAgree, RangesAgree, reads_hold, range_holds, is_up_to_last}
@@ -20,6 +20,7 @@ use Rattle.fs_base.specs.declared.row.Row.{Row}
 use Rattle.key_schema.specs.Keys.{spelled_key, IsSpellable}
 use Rattle.key_schema.specs.declared.key.Key.{Key}
 use Rattle.key_schema.proofs.KeyLaws.{one_key_each}
+use Rattle.kv_store.proofs.HoldLemmas.{same_key}
 use Rattle.row_tree.specs.HasTree.{HasTree}
 use Rattle.row_tree.specs.TreeOf.{tree_of}
 use Rattle.row_tree.specs.TypedRows.{TypedRows}
@@ -55,21 +56,11 @@ RangesAgree-before rows (r ∷ reads) more h = (h.0, RangesAgree-before rows rea
 -- rows that agree with more agree with less
 before_key : (S : TypedRows) (reads : ReadSet) (key : List ℕ) (value : Option (List ℕ)) → Agrees S (with_key reads key value) → Agrees S reads
 before_key S reads key value h =
-    record {
-      rows = h.rows;
-      ascending = h.ascending;
-      spells = h.spells;
-      agrees = record { keys = KeysAgree-before h.rows reads.keys (record { key = key; value = value } ∷ []) h.agrees.keys; ranges = h.agrees.ranges };
-    }
+    search (h.spells, KeysAgree-before h.rows reads.keys (record { key = key; value = value } ∷ []) h.agrees.keys)
 
 before_range : (S : TypedRows) (reads : ReadSet) (range : RangeRead) → Agrees S (with_range reads range) → Agrees S reads
 before_range S reads range h =
-    record {
-      rows = h.rows;
-      ascending = h.ascending;
-      spells = h.spells;
-      agrees = record { keys = h.agrees.keys; ranges = RangesAgree-before h.rows reads.ranges (range ∷ []) h.agrees.ranges };
-    }
+    search (h.spells, RangesAgree-before h.rows reads.ranges (range ∷ []) h.agrees.ranges)
 
 SpelledIn-push : (areas : List Area) (reads : List KeyRead) (read : KeyRead) → AreSpelledIn areas reads → AreSpelledIn areas (read ∷ []) → AreSpelledIn areas (reads ++ read ∷ [])
 SpelledIn-push areas [] read h e = e
@@ -113,31 +104,17 @@ module _ (C : Settings) (q : Request) (reads : ReadSet) (rows : List Row) (T : T
 
 -- ---- a key that was held
 
-pub equal_key : (a b : List ℕ) → is_eq (key_cmp a b) ≡ true → a ≡ b
-equal_key a b t = by_place (a ≡ b) a b
-    (λ e. absurd (let f : false ≡ true = (rw e at t) in cc))
-    (λ e. key_exact a b e)
-    (λ e. absurd (let f : false ≡ true = (rw e at t) in cc))
-
 -- a key that was read
 key_touched : (areas : List Area) (reads : List KeyRead) (key : Key) → IsSpellable key → AreSpelledIn areas reads → list_any (λ (read : KeyRead). is_eq (key_cmp (spelled_key key) read.key)) reads ≡ true → IsTouched areas key
 key_touched areas [] key valid h e = absurd (let f : false ≡ true = e in cc)
 key_touched areas (r ∷ reads) key valid h e =
     elim (or_cases (is_eq (key_cmp (spelled_key key) r.key)) (list_any (λ (read : KeyRead). is_eq (key_cmp (spelled_key key) read.key)) reads) e) [
       | inl here ↦
-          (let bytes_are : spelled_key key ≡ r.key = equal_key (spelled_key key) r.key here in
-          let same : h.0.0 ≡ key = one_key_each h.0.0 key h.0.1 valid (sym h.0.2 ∙ sym bytes_are) in
+          (let bytes_are : r.key ≡ spelled_key key = same_key (spelled_key key) r.key here in
+          let same : h.0.0 ≡ key = one_key_each h.0.0 key h.0.1 valid (sym h.0.2 ∙ bytes_are) in
           inl (subst (λ (k : Key). IsArea (OneKey k) areas) same h.0.3))
       | inr later ↦ key_touched areas reads key valid h.1 later
     ]
-
-and_left : (a b : Bool) → (a && b) ≡ true → a ≡ true
-and_left true b e = refl
-and_left false b e = absurd (let f : false ≡ true = e in cc)
-
-and_right : (a b : Bool) → (a && b) ≡ true → b ≡ true
-and_right true b e = e
-and_right false b e = absurd (let f : false ≡ true = e in cc)
 
 -- from what is below on
 above_both : (low lo key : List ℕ) → is_le (key_cmp low lo) ≡ true → is_ge (key_cmp key lo) ≡ true → is_ge (key_cmp key low) ≡ true
@@ -152,14 +129,10 @@ above_both low lo key l g = by_place (is_ge (key_cmp key low) ≡ true) low lo
     flipped : (a b : List ℕ) → key_cmp a b ≡ Greater → key_cmp b a ≡ Less
     flipped a b h = key_greater_flips a b h
 
-both_true : (a b : Bool) → a ≡ true → b ≡ true → (a && b) ≡ true
-both_true true b x y = y
-both_true false b x y = absurd (let f : false ≡ true = x in cc)
-
 -- a key in a range that was read lies in the area's range
 range_key : (from to lo hi : List ℕ) (key : List ℕ) → IsRangeOf from to lo hi → is_ge (key_cmp key from) ≡ true → is_lt (key_cmp key to) ≡ true → is_inside lo hi key ≡ true
 range_key from to lo hi key of behind before =
-    both_true (is_ge (key_cmp key lo)) (is_lt (key_cmp key hi)) (above_both lo from key of.0 behind) (ap (λ h. is_lt (key_cmp key h)) (sym of.1) ∙ before)
+    and_from (is_ge (key_cmp key lo)) (is_lt (key_cmp key hi)) (above_both lo from key of.0 behind) (ap (λ h. is_lt (key_cmp key h)) (sym of.1) ∙ before)
 
 range_touched : (areas : List Area) (reads : List RangeRead) (key : Key) → AreRangesTouched areas reads → list_any (λ (read : RangeRead). range_holds read (spelled_key key)) reads ≡ true → IsTouched areas key
 range_touched areas [] key h e = absurd (let f : false ≡ true = e in cc)
@@ -168,11 +141,10 @@ range_touched areas (r ∷ reads) key h e =
       | inl here ↦
           (let from_lo : Bool = is_ge (key_cmp (spelled_key key) r.lo) in
           let below_hi : Bool = is_lt (key_cmp (spelled_key key) r.hi) in
-          let both : (from_lo && below_hi) ≡ true = and_left (from_lo && below_hi) (if length r.rows == r.limit then is_up_to_last r.rows (spelled_key key) else true) here in
-          let from : from_lo ≡ true = and_left from_lo below_hi both in
-          let to : below_hi ≡ true = and_right from_lo below_hi both in
+          let both = and_parts (from_lo && below_hi) (if length r.rows == r.limit then is_up_to_last r.rows (spelled_key key) else true) here in
+          let sides = and_parts from_lo below_hi both.0 in
           let area = h.0 in
-          inr (area.0, area.1, area.2, range_key r.lo r.hi area.0 area.1 (spelled_key key) area.3 from to))
+          inr (area.0, area.1, area.2, range_key r.lo r.hi area.0 area.1 (spelled_key key) area.3 sides.0 sides.1))
       | inr later ↦ range_touched areas reads key h.1 later
     ]
 

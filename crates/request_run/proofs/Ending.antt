@@ -1,5 +1,5 @@
 -- Each way in which a request ends, and what came of it.
-use Rattle.std.proofs.Common.{◌≡◌, ℕ, ◌<◌, ◌≤◌, ◌+◌, ◌^◌, inl, inr, List, ◌++◌, [], ◌∷◌, Option, Some, None, Bool, true, false, cond, length, sym, ◌∙◌, ap, subst, arith, eq-eqb}
+use Rattle.std.proofs.Common.{◌≡◌, ℕ, ◌<◌, ◌≤◌, ◌+◌, ◌^◌, inl, inr, List, Option, Some, None, Bool, true, false, cond, length, sym, ◌∙◌, ap, subst, arith, eq-eqb}
 use Rattle.std.specs.Prelude.{MatchBool, MatchOption, ⊤, ◌⊎◌, nat_lt, slice_get}
 use Rattle.std.specs.FinMap.{get}
 use Rattle.std.proofs.lemmas.Bool.{cases_lt}
@@ -22,7 +22,6 @@ use Rattle.kv_store.specs.Journal.{last_writer}
 use Rattle.path_walk.specs.Owed.{IsKeptBefore}
 use Rattle.path_walk.specs.Sound.{IsSoundEntry}
 use Rattle.path_walk.proofs.WholeLaws.{kept_in}
-use Rattle.row_records.specs.Rows.{spelled_kept}
 use Rattle.row_tree.specs.HasTree.{HasTree}
 use Rattle.tree_model.specs.Calls.{apply, after_kept, effect, is_query, settle}
 use Rattle.tree_model.specs.Effects.{Makes, at_length, settled_by}
@@ -37,14 +36,13 @@ use Rattle.meta_task.specs.declared.waiting.Waiting.TheVariants as waits
 use Rattle.run_record.specs.Legal.{EntryAt, journal_rows, tree_at, writes_of}
 use Rattle.run_record.specs.Outcomes.{AreAttempts, IsSeen, IsTold, MayTell, NamesEntry, Shows}
 use Rattle.run_record.specs.Right.{IsNoRefusal}
+use Rattle.run_record.proofs.OneMore.{last_version_low}
 use Rattle.run_record.proofs.Rising.{last_version_above}
-use Rattle.run_record.proofs.TreeReplies.{IsTreeReply, accepted_reply, attempts_left, may_tell, new_reply, query_reply}
+use Rattle.run_record.proofs.TreeReplies.{IsTreeReply, accepted_reply, attempts_left, made_reply, may_tell, new_reply, query_reply}
 use Rattle.histories.proofs.Lists.{at_within}
 use Rattle.request_run.specs.Served.{CameTo, EachOf, HasMet, IsBegun, IsOwn, last_version}
 use Rattle.request_run.specs.Sound.{IsSoundJournal}
-use Rattle.request_run.proofs.Conflicts.{last_version_low}
 use Rattle.request_run.proofs.History.{entry_sound, kept_above, kept_by, once, row_kept, rows_ascend, rows_tree}
-use Rattle.request_run.proofs.Replies.{made_reply}
 
 -- no entry has the request's client and number
 abbrev pub HasNone : List Entry → Request → Type 0

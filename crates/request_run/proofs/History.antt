@@ -43,7 +43,7 @@ use Rattle.txn_task.specs.declared.messages.Entry.{Entry}
 use Rattle.histories.proofs.Versions.{place_or_end, tree_next}
 use Rattle.run_record.specs.Legal.{AreReplies, applied, EntryAt, IsLegal, IsOnce, journal_rows, reads_of, tree_after, tree_at, writes_of}
 use Rattle.request_run.specs.Sound.{IsSoundJournal}
-use Rattle.request_run.proofs.Keeping.{IsNew, kept_as, kept_own, kept_other}
+use Rattle.run_record.proofs.Keeping.{IsNew, kept_as, kept_own, kept_other}
 
 abbrev Run : Settings → List Row → List Entry → Type 0
 Run C rows es = IsRun reads_of writes_of (IsSoundEntry C) rows es

@@ -5,6 +5,4 @@ pub mod Covered
 pub mod Ending
 pub mod Growing
 pub mod History
-pub mod Keeping
-pub mod Replies
 pub mod Rows

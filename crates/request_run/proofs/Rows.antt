@@ -1,5 +1,6 @@
 -- The store's journal as a list of plain entries.
-use Rattle.std.proofs.Common.{◌≡◌, ℕ, zero, suc, ◌+◌, List, [], ◌∷◌, ◌++◌, length, take, drop, refl, ap, subst, ◌∙◌}
+use Rattle.std.proofs.Common.{◌≡◌, ℕ, ◌+◌, List, [], ◌∷◌, ◌++◌, length, take, drop, refl, sym, ap, subst, ◌∙◌}
+use Rattle.std.proofs.lemmas.List.{drop-map, length-map, map_push, take-map}
 use Rattle.conflict_sets.specs.Reads.{first_held}
 use Rattle.conflict_sets.specs.Rows.{IsAscending, with_writes}
 use Rattle.conflict_sets.specs.declared.sets.ReadSet.{ReadSet}
@@ -17,23 +18,14 @@ use Rattle.request_run.specs.Sound.{IsSoundJournal, IsOpen}
 
 -- ---- lists
 
-take_entries : (n : ℕ) (journal : List MetaEntry) → entries_of (take n journal) ≡ take n (entries_of journal)
-take_entries zero journal = refl
-take_entries (suc n) [] = refl
-take_entries (suc n) (m ∷ journal) = ap (λ (es : List Entry). m.entry ∷ es) (take_entries n journal)
-
-drop_entries : (n : ℕ) (journal : List MetaEntry) → entries_of (drop n journal) ≡ drop n (entries_of journal)
-drop_entries zero journal = refl
-drop_entries (suc n) [] = refl
-drop_entries (suc n) (m ∷ journal) = drop_entries n journal
+abbrev entry_of : MetaEntry → Entry
+entry_of m = m.entry
 
 pub length_entries : (journal : List MetaEntry) → length (entries_of journal) ≡ length journal
-length_entries [] = refl
-length_entries (m ∷ journal) = ap suc (length_entries journal)
+length_entries journal = length-map journal entry_of
 
 pub entries-push : (journal : List MetaEntry) (m : MetaEntry) → entries_of (journal ++ m ∷ []) ≡ entries_of journal ++ m.entry ∷ []
-entries-push [] m = refl
-entries-push (x ∷ journal) m = ap (λ (es : List Entry). x.entry ∷ es) (entries-push journal m)
+entries-push journal m = map_push entry_of journal m
 
 -- ---- rows, writers and later writes
 
@@ -42,21 +34,21 @@ rows_after rows [] = refl
 rows_after rows (m ∷ journal) = rows_after (with_writes rows m.entry.writes.writes) journal
 
 pub rows_same : (opening : List Row) (journal : List MetaEntry) (n : ℕ) → rows_at (λ (m : MetaEntry). m.entry.writes) opening journal n ≡ rows_at writes_of opening (entries_of journal) n
-rows_same opening journal n = rows_after opening (take n journal) ∙ ap (after_all writes_of opening) (take_entries n journal)
+rows_same opening journal n = rows_after opening (take n journal) ∙ ap (after_all writes_of opening) (sym (take-map entry_of n journal))
 
 later_after : (reads : ReadSet) (version : ℕ) (journal : List MetaEntry) → later_from (λ (m : MetaEntry). m.entry.writes) reads version journal ≡ later_from writes_of reads version (entries_of journal)
 later_after reads version [] = refl
 later_after reads version (m ∷ journal) = ap (this_or (first_held reads m.entry.writes.writes) (version + 1)) (later_after reads (version + 1) journal)
 
 pub later_same : (journal : List MetaEntry) (snapshot : ℕ) (reads : ReadSet) → first_later (λ (m : MetaEntry). m.entry.writes) journal snapshot reads ≡ first_later writes_of (entries_of journal) snapshot reads
-later_same journal snapshot reads = later_after reads snapshot (drop snapshot journal) ∙ ap (later_from writes_of reads snapshot) (drop_entries snapshot journal)
+later_same journal snapshot reads = later_after reads snapshot (drop snapshot journal) ∙ ap (later_from writes_of reads snapshot) (sym (drop-map entry_of snapshot journal))
 
 writer_after : (key : List ℕ) (version writer : ℕ) (journal : List MetaEntry) → writer_from (λ (m : MetaEntry). m.entry.writes) key version writer journal ≡ writer_from writes_of key version writer (entries_of journal)
 writer_after key version writer [] = refl
 writer_after key version writer (m ∷ journal) = writer_after key (version + 1) (is_written (written_value m.entry.writes.writes key) (version + 1) writer) journal
 
 pub writer_same : (journal : List MetaEntry) (n : ℕ) (key : List ℕ) → last_writer (λ (m : MetaEntry). m.entry.writes) journal n key ≡ last_writer writes_of (entries_of journal) n key
-writer_same journal n key = writer_after key 0 0 (take n journal) ∙ ap (writer_from writes_of key 0 0) (take_entries n journal)
+writer_same journal n key = writer_after key 0 0 (take n journal) ∙ ap (writer_from writes_of key 0 0) (sym (take-map entry_of n journal))
 
 -- ---- the run
 

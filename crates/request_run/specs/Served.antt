@@ -52,6 +52,7 @@ AreCovered C journal =
 
 -- ---- a client's entries
 
+-- what holds of each entry of a client, with its place
 abbrev pub EachOf : List Entry → ClientId → (ℕ → Entry → Type 0) → Type 0
 EachOf journal client holds =
     (place : ℕ) (entry : Entry) → EntryAt journal place entry → entry.request.client ≡ client
@@ -62,6 +63,7 @@ abbrev pub AreOthers : List Entry → ClientId → Type 0
 AreOthers journal client =
     (place : ℕ) (entry : Entry) → EntryAt journal place entry → entry.request.client ≢ client
 
+-- each of the request's client has a smaller number
 abbrev pub AreEarlier : List Entry → Request → Type 0
 AreEarlier journal request =
     EachOf journal request.client (λ place entry. entry.request.number < request.number)
@@ -135,6 +137,7 @@ IsMadeAt journal server outcome =
     outcome.committed ≡ true → (place : ℕ) (entry : Entry) → EntryAt journal place entry
     → outcome.version ≡ place + 1 → entry.request.server ≡ server
 
+-- what a request came to, by its outcome
 pub record CameTo (C : Settings) (attempts : ℕ) (journal : List Entry) (request : Request) (front : ℕ)
     (outcome : Outcome) : Type 0 where
   pub outcome_is : IsOutcome C journal request front outcome

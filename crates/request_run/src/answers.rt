@@ -132,7 +132,7 @@ fn commit(store: &mut KvState<MetaEntry>, snapshot: u64, entry: Entry) -> Result
     }
 }
 
-/// A conflict's key from its bytes.
+/// A conflict's key from its bytes, which are all that the store knows of it; a receipt holds the key itself.
 fn conflict(alloc: Global, version: u64, bytes: &Text) -> Result<Answer, Memory>
     requires { (key : Key) × IsKeyOf bytes.now key }
     ensures { IfOk result (λ a. (key : Key) × IsKeyOf bytes.now key × (a ≡ answers.Conflict version key)) }

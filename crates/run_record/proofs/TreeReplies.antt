@@ -29,7 +29,7 @@ use Rattle.tree_model.specs.declared.walk.WalkEnd.TheVariants.{Follow, NoFollow,
 use Rattle.tree_model.specs.Attributes.{attributes_of, changed, count_to}
 use Rattle.tree_model.specs.Calls.{apply, effect, effect_of, is_query, settle}
 use Rattle.tree_model.specs.Creating.{id_of, is_layout, part_for, with_child, add_numbered, add_in, add_child, unless_there, make_at, new_dir, new_file, new_link}
-use Rattle.tree_model.specs.Effects.{Effect, Leaves, Makes, Settles, refuses, on_path}
+use Rattle.tree_model.specs.Effects.{Effect, Leaves, Makes, Settles, at_length, on_path, refuses, settled_by}
 use Rattle.tree_model.specs.Finding.{found_of, if_there, list_at, readlink_at, setattr_at, stat_at, target_of}
 use Rattle.tree_model.specs.Linking.{at_name, is_empty_dir, link_at, link_in, link_to, link_under, rmdir_at, rmdir_entry, rmdir_part, unlink_at, unlink_entry, unlink_part, with_link, without_dir}
 use Rattle.tree_model.specs.Maps.{is_end}
@@ -169,10 +169,16 @@ resolve_well T base path end =
 
 -- ---- effects
 
+-- what makes a tree is no refusal
 abbrev RepliesWell : Effect → Type 0
 RepliesWell (Leaves reply) = IsTreeReply reply
-RepliesWell (Makes tree reply) = IsTreeReply reply
+RepliesWell (Makes tree reply) = IsNoRefusal reply
 RepliesWell (Settles tree) = Unit {0}
+
+well_at : (settled : ℕ) (f : Effect) → RepliesWell f → RepliesWell (at_length settled f)
+well_at settled (Leaves reply) h = h
+well_at settled (Makes tree reply) h = h
+well_at settled (Settles tree) h = tt
 
 by_path : (text : List ℕ) (act : Path → Effect) → ((path : Path) → RepliesWell (act path)) → RepliesWell (on_path (path_of text) act)
 by_path text act h = read (path_of text) (path_well text)
@@ -408,9 +414,18 @@ call_well C T q call = tt
 
 -- ---- replies
 
+-- an entry's is no refusal
+pub made_reply : (C : Settings) (T V : Tree) (q : Request) (reply : Reply)
+    → at_length (settled_by reply) (effect C T q) ≡ Makes V reply → IsNoRefusal reply
+made_reply C T V q reply is = subst RepliesWell is (well_at (settled_by reply) (effect C T q) (call_well C T q q.call))
+
+pub accepted_reply : (reply : Reply) → IsNoRefusal reply → IsTreeReply reply
+accepted_reply (Refused code) h = absurd h
+accepted_reply reply h = tt
+
 settled_well : (T : Tree) (q : Request) (settled : ℕ) (reply : Reply) (f : Effect) → RepliesWell f → settle T q settled f ≡ (T, reply) → IsTreeReply reply
 settled_well T q settled reply (Leaves r) h e = subst IsTreeReply (ap (λ (p : Tree × Reply). p.1) e) h
-settled_well T q settled reply (Makes V r) h e = subst IsTreeReply (ap (λ (p : Tree × Reply). p.1) e) h
+settled_well T q settled reply (Makes V r) h e = subst IsTreeReply (ap (λ (p : Tree × Reply). p.1) e) (accepted_reply r h)
 settled_well T q settled reply (Settles V) h e = subst IsTreeReply (ap (λ (p : Tree × Reply). p.1) e) tt
 
 -- a query's, and those of a call with a new number
@@ -419,11 +434,6 @@ query_reply C T q settled reply query is = settled_well T q settled reply (effec
 
 pub new_reply : (C : Settings) (T : Tree) (q : Request) (settled : ℕ) (reply : Reply) → IsNewNumber (get T.kept q.client.0) q.number → apply C T q settled ≡ (T, reply) → IsTreeReply reply
 new_reply C T q settled reply new is = settled_well T q settled reply (effect C T q) (call_well C T q q.call) (sym (apply_new C T q settled new) ∙ is)
-
--- an entry's
-pub accepted_reply : (reply : Reply) → IsNoRefusal reply → IsTreeReply reply
-accepted_reply (Refused code) h = absurd h
-accepted_reply reply h = tt
 
 -- ---- what they may tell
 

@@ -1,6 +1,7 @@
 -- A world that begins, one that has ended, and the plan that both keep.
-use Rattle.std.proofs.Common.{◌≡◌, ℕ, ◌^◌, ◌<◌, ◌≤◌, ◌+◌, inl, inr, suc, Bool, List, [], ◌∷◌, Some, false, get_or, length, map, Result, Ok, Err, IfOk, refl, sym, ap, subst, ◌∙◌, arith}
+use Rattle.std.proofs.Common.{◌≡◌, ℕ, ◌^◌, ◌<◌, ◌≤◌, inl, inr, Bool, List, [], Some, false, get_or, length, map, Result, Ok, Err, IfOk, sym, ap, subst, ◌∙◌}
 use Rattle.std.specs.Prelude.{slice_get}
+use Rattle.std.proofs.lemmas.List.{length-map}
 use Rattle.fs_base.specs.Config.{Settings}
 use Rattle.fs_base.specs.declared.ids.ClientId.{ClientId}
 use Rattle.fs_base.specs.declared.memory.Memory.{Memory}
@@ -18,22 +19,21 @@ use Rattle.client_core.specs.declared.plan.Schedule.{Schedule}
 use Rattle.client_core.specs.declared.plan.Script.{Script}
 use Rattle.run_record.specs.Right.{IsRight, conflicts_in, summary_of}
 use Rattle.run_record.specs.declared.run.Record.{Record}
-use Rattle.world_core.specs.Kept.{IsSeat}
 use Rattle.request_run.specs.Entries.{IsGrowth, entries_of}
 use Rattle.world_core.specs.Objects.{Done, IsStep, Objects, grown, no_histories}
 use Rattle.request_run.specs.Sound.{IsOpen, IsSoundJournal}
-use Rattle.world_core.specs.World.{AreSeated, HaveEnded, IsWorld, WorldView, plan_of, receipts_in, scripts_of, seats_of}
-use Rattle.world_core.specs.declared.seats.Seat.{Seat}
-use Rattle.world_core.proofs.Counting.{few_conflicts}
-use Rattle.world_core.proofs.Righting.{right_record, sections}
+use Rattle.seat_turns.specs.Seats.{AreSeated, HaveEnded, receipts_in, scripts_of, seats_of}
+use Rattle.world_core.specs.World.{IsWorld, WorldView, plan_of}
+use Rattle.seat_turns.specs.declared.seats.Seat.{Seat}
+use Rattle.run_record.proofs.Counting.{few_conflicts}
+use Rattle.world_core.proofs.Righting.{all_sections, right_record}
 use Rattle.request_run.proofs.Rows.{length_entries}
-use Rattle.world_core.proofs.Seating.{scripts_new, seat_there, seated_new}
+use Rattle.seat_turns.proofs.Seating.{scripts_new, seat_there, seated_new}
 
 -- ---- the plan
 
 length_scripts : (seats : List Seat) → length (scripts_of seats) ≡ length seats
-length_scripts [] = refl
-length_scripts (seat ∷ seats) = ap (λ (n : ℕ). suc n) (length_scripts seats)
+length_scripts seats = length-map seats (λ (seat : Seat). seat.client.script)
 
 -- worlds of one plan have as many clients
 pub same_seats : (v w : WorldView) → plan_of v ≡ plan_of w → length v.seats ≡ length w.seats
@@ -41,8 +41,6 @@ same_seats v w same = sym (length_scripts v.seats) ∙ (ap (λ (plan : Plan). le
 
 pub same_schedule : (v w : WorldView) → plan_of v ≡ plan_of w → v.schedule ≡ w.schedule
 same_schedule v w same = ap (λ (plan : Plan). plan.schedule) same
-
--- ---- a world that begins
 
 -- ---- a turn that went on
 
@@ -115,10 +113,8 @@ module _ (plan : Plan) (store : Store MetaEntry) (seats : List Seat) (are : seat
 pub few_kept : (w : WorldView) → IsWorld w → w.failed ≡ false → HaveEnded w.seats → length w.objects.store.journal ≤ 200000 → conflicts_in (receipts_in w.seats) < 2 ^ 64
 few_kept w h alive ended short =
     let journal : List Entry = entries_of w.objects.store.journal in
-    let seated : AreSeated w.config w.attempts journal w.seats = h.seated alive in
     few_conflicts w.config w.attempts journal (scripts_of w.seats) (receipts_in w.seats)
-    (sections w.config w.attempts journal w.seats 0 (λ k z at.
-    (let same : k ≡ 0 + k = omega arith in (subst (λ n. IsSeat w.config w.attempts journal n z) same (seated.all k z at), ended k z at))))
+    (all_sections w.config w.attempts journal w.seats (h.seated alive) ended)
     (subst (λ (n : ℕ). n ≤ 200000) (sym (length_entries w.objects.store.journal)) short)
     h.short
 

@@ -1,11 +1,4 @@
-pub mod Ahead
 pub mod Closing
-pub mod Counting
-pub mod DoomedRows
-pub mod EventLaws
 pub mod OrderLaws
-pub mod Receiving
 pub mod Righting
-pub mod Seating
 pub mod Waiting
-pub mod Working

@@ -1,5 +1,5 @@
 -- From clients that have ended to the record of their run.
-use Rattle.std.proofs.Common.{◌≡◌, ◌≢◌, ℕ, zero, suc, ◌+◌, ◌<◌, ◌≤◌, inl, inr, List, [], ◌∷◌, ◌++◌, map, Some, None, Bool, true, false, cond, eqb, length, take, count_by, refl, sym, ap, subst, ◌∙◌, arith}
+use Rattle.std.proofs.Common.{◌≡◌, ◌≢◌, ℕ, zero, suc, ◌+◌, ◌<◌, ◌≤◌, inl, inr, List, [], ◌∷◌, ◌++◌, map, Some, None, Bool, true, false, cond, eqb, length, take, count_by, refl, sym, ap, subst, ◌∙◌, arith, zero-add}
 use Rattle.std.specs.Prelude.{slice_get}
 use Rattle.std.proofs.lemmas.Bool.{and_parts, and_from, cases_Bool, eqb-true, eq-eqb}
 use Rattle.std.proofs.lemmas.List.{take_all}
@@ -17,7 +17,7 @@ use Rattle.client_core.specs.Plans.{AreDistinct}
 use Rattle.client_core.specs.Scripts.{scripts_in}
 use Rattle.client_core.specs.declared.plan.Op.{Op}
 use Rattle.client_core.specs.declared.plan.Script.{Script}
-use Rattle.run_record.specs.Legal.{EntryAt, IsLegal, journal_rows, tree_at}
+use Rattle.run_record.specs.Legal.{EntryAt, journal_rows, tree_at}
 use Rattle.run_record.specs.Follow.{Follow}
 use Rattle.run_record.specs.Receipts.{AreReceipts, IsReceipt, IsSection}
 use Rattle.run_record.specs.Right.{AreSections, IsRight, IsRightEntry, names_place, summary_of}
@@ -28,17 +28,18 @@ use Rattle.client_core.proofs.Scripts.{scripts_are}
 use Rattle.run_record.proofs.Replaying.{section_of}
 use Rattle.run_record.proofs.Naming.{naming}
 use Rattle.request_run.specs.Served.{AreCovered}
-use Rattle.world_core.specs.Kept.{HasReceipt, IsSeat}
+use Rattle.seat_turns.specs.Kept.{HasReceipt, IsSeat}
 use Rattle.request_run.specs.Entries.{entries_of}
 use Rattle.request_run.specs.Sound.{IsSoundJournal}
-use Rattle.world_core.specs.World.{AreSeated, HaveEnded, WorldView, plan_of, receipts_in, scripts_of}
-use Rattle.world_core.specs.declared.seats.Seat.{Seat}
+use Rattle.seat_turns.specs.Seats.{AreSeated, HaveEnded, receipts_in, scripts_of}
+use Rattle.world_core.specs.World.{WorldView, plan_of}
+use Rattle.seat_turns.specs.declared.seats.Seat.{Seat}
 use Rattle.request_run.proofs.Covered.{all_touched}
 use Rattle.request_run.proofs.Ending.{no_refusal}
 use Rattle.request_run.proofs.History.{at_there, entry_sound, legal, rows_ascend, rows_tree}
-use Rattle.world_core.proofs.Receiving.{names_is}
-use Rattle.world_core.proofs.Seating.{one_seat}
-use Rattle.world_core.proofs.Working.{unsent}
+use Rattle.seat_turns.proofs.Receiving.{names_is}
+use Rattle.seat_turns.proofs.Seating.{one_seat}
+use Rattle.seat_turns.proofs.Working.{unsent}
 
 -- ---- each entry
 
@@ -64,7 +65,7 @@ section C attempts journal k seat h ended =
     let all : take seat.client.op seat.client.script.ops ≡ seat.client.script.ops = take_all seat.client.op seat.client.script.ops (ended_is seat.client ended).1 in
     section_of C attempts journal k seat.client.script seat.receipts (subst (λ (steps : List Op). Follow k seat.client.script 0 steps seat.receipts) all h.past.follow) h.past.each h.past.rises
 
-pub sections : (C : Settings) (attempts : ℕ) (journal : List Entry) (seats : List Seat) (base : ℕ)
+sections : (C : Settings) (attempts : ℕ) (journal : List Entry) (seats : List Seat) (base : ℕ)
     → ((k : ℕ) (seat : Seat) → slice_get seats k ≡ Some seat → IsSeat C attempts journal (base + k) seat × (has_ended seat.client ≡ true))
     → AreSections C attempts journal base (scripts_of seats) (receipts_in seats)
 sections C attempts journal [] base each = refl
@@ -80,6 +81,13 @@ sections C attempts journal (seat ∷ seats) base each =
           let same : base + suc k ≡ (base + 1) + k = omega arith in
           (subst (λ n. IsSeat C attempts journal n z) same later.0, later.1))),
     )
+
+pub all_sections : (C : Settings) (attempts : ℕ) (journal : List Entry) (seats : List Seat)
+    → AreSeated C attempts journal seats → HaveEnded seats
+    → AreSections C attempts journal 0 (scripts_of seats) (receipts_in seats)
+all_sections C attempts journal seats seated ended =
+    sections C attempts journal seats 0
+    (λ k z at. (subst (λ n. IsSeat C attempts journal n z) (sym (zero-add k)) (seated.all k z at), ended k z at))
 
 -- ---- each entry has one receipt
 
@@ -182,20 +190,19 @@ pub right_record : (w : WorldView) (run : Record) → IsSoundJournal w.config (e
 right_record w run s distinct seated ended config clients receipts entries summary =
     let C : Settings = w.config in
     let journal : List Entry = entries_of w.objects.store.journal in
-    let named : (place : ℕ) → place < length journal → naming place (receipts_in w.seats) ≡ 1 = named_once C w.attempts journal w.seats distinct seated ended in
     let all : scripts_in (plan_of w) ≡ scripts_of w.seats = scripts_are (plan_of w) in
-    record {
-      config = config;
-      clients = clients ∙ sym (ap (λ (ss : List Script). map (λ (script : Script). script.id) ss) all);
-      legal = subst (λ (es : List Entry). IsLegal C es) (sym entries) (legal C journal s);
-      rows = subst (λ (es : List Entry). (n : ℕ) → HasTree C (journal_rows C es n) (tree_at C es n)) (sym entries) (rows_tree C journal s);
-      entries = subst (λ (es : List Entry). (place : ℕ) (e : Entry) → EntryAt es place e → IsRightEntry C es place e) (sym entries) (λ place e at. entry_right C journal place e s seated.covered at);
-      sections = subst (λ (es : List Entry). AreSections C w.attempts es 0 (scripts_in (plan_of w)) run.receipts) (sym entries)
-          (subst (λ (rs : List Listed). AreSections C w.attempts journal 0 (scripts_in (plan_of w)) rs) (sym receipts)
-          (subst (λ (ss : List Script). AreSections C w.attempts journal 0 ss (receipts_in w.seats)) (sym all)
-          (sections C w.attempts journal w.seats 0 (λ k z at.
-          (let same : k ≡ 0 + k = omega arith in (subst (λ n. IsSeat C w.attempts journal n z) same (seated.all k z at), ended k z at))))));
-      named = subst (λ (es : List Entry). (place : ℕ) → place < length es → naming place run.receipts ≡ 1) (sym entries)
-          (subst (λ (rs : List Listed). (place : ℕ) → place < length journal → naming place rs ≡ 1) (sym receipts) named);
-      summary = summary;
-    }
+    let ids : List ClientId = map (λ (script : Script). script.id) (scripts_of w.seats) in
+    let is : run ≡ record run { config = C; clients = ids; receipts = receipts_in w.seats; entries = journal } =
+    λ i. record run { config = config i; clients = clients i; receipts = receipts i; entries = entries i } in
+    subst (IsRight (plan_of w)) (sym is)
+    (record {
+      config = refl;
+      clients = ap (λ (ss : List Script). map (λ (script : Script). script.id) ss) (sym all);
+      legal = legal C journal s;
+      rows = rows_tree C journal s;
+      entries = λ place e at. entry_right C journal place e s seated.covered at;
+      sections = subst (λ (ss : List Script). AreSections C w.attempts journal 0 ss (receipts_in w.seats)) (sym all)
+          (all_sections C w.attempts journal w.seats seated ended);
+      named = named_once C w.attempts journal w.seats distinct seated ended;
+      summary = summary ∙ (λ i. summary_of C (clients i) (receipts i) (entries i));
+    })

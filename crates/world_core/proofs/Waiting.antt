@@ -8,7 +8,7 @@ use Rattle.key_schema.specs.Ranges.{all_doomed, raised}
 use Rattle.kv_store.specs.Journal.{rows_at}
 use Rattle.kv_store.specs.Store.{Store}
 use Rattle.meta_task.specs.declared.entry.MetaEntry.{MetaEntry}
-use Rattle.world_core.proofs.DoomedRows.{doomed_rows}
+use Rattle.run_record.proofs.DoomedRows.{doomed_rows}
 use Rattle.run_record.specs.Legal.{journal_rows, tree_at}
 use Rattle.run_record.specs.Right.{waiting_in}
 use Rattle.txn_task.specs.declared.messages.Entry.{Entry}

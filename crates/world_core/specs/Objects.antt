@@ -10,6 +10,8 @@ use Rattle.request_run.specs.Entries.{with_entry}
 abbrev pub Done : Type 0
 Done = ⊥
 
+-- The nodes' histories are lists of a type without values as yet, so a turn's clause says of them what it
+-- will say: at most one object grew.
 pub record Objects : Type 0 where
   pub store : Store MetaEntry
   -- each node's history

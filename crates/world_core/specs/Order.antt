@@ -2,8 +2,9 @@
 use Rattle.std.specs.Prelude.{◌≡◌, ℕ, zero, suc, ◌-◌, true, false, nat_lt, length, List, Some, slice_get, MatchBool}
 use Rattle.run_record.specs.declared.run.Record.{Record}
 use Rattle.request_run.specs.Entries.{entries_of}
-use Rattle.world_core.specs.Left.{has_left}
-use Rattle.world_core.specs.World.{IsOpTurn, IsTurn, WorldView, items_of, receipts_in}
+use Rattle.seat_turns.specs.Left.{has_left}
+use Rattle.seat_turns.specs.Seats.{receipts_in}
+use Rattle.world_core.specs.World.{IsOpTurn, IsTurn, WorldView, items_of}
 use Rattle.world_core.specs.declared.world.Turn.{Turn}
 
 -- ---- the schedule
@@ -23,7 +24,8 @@ AreItems items old new (suc place) =
 
 -- ---- rounds
 
--- a whole operation of each of the first clients that has one left
+-- a whole operation of each of the first clients that has one left; one that listed turns have left under
+-- way is ended first, and is that client's
 abbrev pub IsRoundTo : WorldView → WorldView → ℕ → Type 0
 IsRoundTo old new zero = new ≡ old
 IsRoundTo old new (suc client) =

@@ -1,24 +1,19 @@
 -- Clients and servers over one store.
-use Rattle.std.specs.Prelude.{◌≡◌, ◌≤◌, ◌<◌, ℕ, zero, suc, List, [], ◌∷◌, ◌++◌, Bool, true, false, length, map, slice_get, Some, None}
+use Rattle.std.specs.Prelude.{◌≡◌, ◌≤◌, ◌<◌, ℕ, zero, suc, List, [], Bool, true, false, length, slice_get, Some}
 use Rattle.fs_base.specs.Config.{Settings}
 use Rattle.fs_base.specs.declared.limits.TheConstants.{ATTEMPTS, CLIENTS, OPERATIONS}
-use Rattle.txn_task.specs.declared.messages.Entry.{Entry}
-use Rattle.client_core.specs.Client.{has_ended, new_client}
+use Rattle.client_core.specs.Client.{has_ended}
 use Rattle.client_core.specs.Plans.{AreDistinct, IsSchedule, ops_in}
 use Rattle.client_core.specs.declared.plan.Plan.{Plan}
 use Rattle.client_core.specs.declared.plan.Schedule.{Schedule}
 use Rattle.client_core.specs.declared.plan.Schedule.TheVariants.{Items}
-use Rattle.client_core.specs.declared.plan.Script.{Script}
-use Rattle.run_record.specs.Legal.{EntryAt}
-use Rattle.run_record.specs.declared.run.Listed.{Listed}
-use Rattle.request_run.specs.Served.{AreCovered}
-use Rattle.world_core.specs.Kept.{IsSeat}
 use Rattle.request_run.specs.Entries.{entries_of}
-use Rattle.world_core.specs.Events.{IsEvent}
-use Rattle.world_core.specs.Left.{EndsOne, GoesOn, Stays}
-use Rattle.world_core.specs.Objects.{IsStep, Objects}
 use Rattle.request_run.specs.Sound.{IsOpen}
-use Rattle.world_core.specs.declared.seats.Seat.{Seat}
+use Rattle.seat_turns.specs.Events.{IsEvent}
+use Rattle.seat_turns.specs.Left.{EndsOne, GoesOn, Stays}
+use Rattle.seat_turns.specs.Seats.{AreSeated, scripts_of, seats_of}
+use Rattle.seat_turns.specs.declared.seats.Seat.{Seat}
+use Rattle.world_core.specs.Objects.{IsStep, Objects}
 use Rattle.world_core.specs.declared.world.Turn.{Turn}
 use Rattle.world_core.specs.declared.world.Turn.TheVariants as turns
 
@@ -31,30 +26,12 @@ pub record WorldView : Type 0 where
   -- whether memory was wanting
   pub failed : Bool
 
-abbrev pub scripts_of : List Seat → List Script
-scripts_of seats = map (λ seat. seat.client.script) seats
-
 -- the plan whose run this is
 abbrev pub plan_of : WorldView → Plan
 plan_of w =
     record { config = w.config; attempts = w.attempts; clients = scripts_of w.seats; schedule = w.schedule }
 
--- what holds of each client
-abbrev pub AllSeats : Settings → ℕ → List Entry → List Seat → Type 0
-AllSeats C attempts journal seats =
-    (k : ℕ) (seat : Seat) → slice_get seats k ≡ Some seat → IsSeat C attempts journal k seat
-
--- each entry is a client's
-abbrev pub AreOwned : List Entry → List Seat → Type 0
-AreOwned journal seats =
-    (place : ℕ) (entry : Entry) → EntryAt journal place entry → (k : ℕ) × (seat : Seat)
-    × (slice_get seats k ≡ Some seat) × (entry.request.client ≡ seat.client.script.id)
-
-pub record AreSeated (C : Settings) (attempts : ℕ) (journal : List Entry) (seats : List Seat) : Type 0 where
-  pub all : AllSeats C attempts journal seats
-  pub owned : AreOwned journal seats
-  pub covered : AreCovered C journal
-
+-- What every world keeps; where memory was wanting nothing is said of its clients.
 pub record IsWorld (w : WorldView) : Type 0 where
   pub config : w.objects.store.config ≡ w.config
   pub opened : IsOpen w.objects.store
@@ -65,22 +42,6 @@ pub record IsWorld (w : WorldView) : Type 0 where
   pub short : ops_in (scripts_of w.seats) ≤ OPERATIONS
   pub schedule : IsSchedule (length w.seats) w.schedule
   pub seated : w.failed ≡ false → AreSeated w.config w.attempts (entries_of w.objects.store.journal) w.seats
-
--- each client's script has ended
-abbrev pub HaveEnded : List Seat → Type 0
-HaveEnded seats = (k : ℕ) (seat : Seat) → slice_get seats k ≡ Some seat → has_ended seat.client ≡ true
-
--- all receipts, client by client
-abbrev pub receipts_in : List Seat → List Listed
-receipts_in [] = []
-receipts_in (seat ∷ seats) = seat.receipts ++ receipts_in seats
-
--- a client that has done nothing yet
-abbrev pub new_seat : Settings → Script → Seat
-new_seat C script = record { client = new_client C script; work = None; receipts = [] }
-
-abbrev pub seats_of : Settings → List Script → List Seat
-seats_of C scripts = map (λ script. new_seat C script) scripts
 
 -- a world of this plan in which nothing has happened yet
 pub record IsOpening (plan : Plan) (w : WorldView) : Type 0 where

@@ -2,8 +2,6 @@
 #![tactic(auto)]
 
 mod record;
-mod seats;
-mod turns;
 mod world;
 
 pub use world::{Turn, World};

@@ -4,14 +4,14 @@ ghost use Rattle.std.specs.Prelude.{◌≡◌, ◌<◌, ◌++◌, ◌^◌, map, 
 ghost use Rattle.run_record.specs.Right.{conflicts_in, summary_of, waiting_in};
 ghost use Rattle.request_run.specs.Entries.{entries_of};
 ghost use Rattle.request_run.specs.Sound.{IsOpen};
-ghost use Rattle.world_core.specs.World.{receipts_in, scripts_of};
+ghost use Rattle.seat_turns.specs.Seats.{receipts_in, scripts_of};
 
-use crate::seats::Seat;
 use fs_base::{ClientId, Config, Items, Memory};
 use kv_store::KvState;
 use meta_task::MetaEntry;
 use request_run::sound_store;
 use run_record::{Listed, Record, counts_of};
+use seat_turns::Seat;
 use std::alloc::Global;
 use txn_task::Entry;
 

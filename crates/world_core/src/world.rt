@@ -1,25 +1,25 @@
-ghost use Rattle.std.specs.Prelude.{◌≡◌, ◌⊎◌, ◌≤◌, ◌<◌, ◌+◌, ℕ, [], Some, true, false, length, slice_get, All, IfOk, OnOk, OnErr};
+ghost use Rattle.std.specs.Prelude.{◌≡◌, ◌<◌, ◌+◌, ℕ, [], Some, true, false, length, slice_get, IfOk, OnOk, OnErr};
 ghost use Rattle.client_core.specs.Client.{has_ended};
-ghost use Rattle.client_core.specs.Plans.{IsPlan, IsSchedule, IsScript, NamesClient};
+ghost use Rattle.client_core.specs.Plans.{IsPlan, IsSchedule, NamesClient};
 ghost use Rattle.run_record.specs.Right.{IsRight};
 ghost use Rattle.world_core.specs.Objects.{IsStep};
 ghost use Rattle.request_run.specs.Sound.{IsOpen};
-ghost use Rattle.world_core.specs.Left.{AreAhead, EndsOne, has_left};
+ghost use Rattle.seat_turns.specs.Left.{AreAhead, EndsOne, has_left};
 ghost use Rattle.world_core.specs.Order.{AreItems, AreRounds, IsItem, IsKept, IsOrdered, IsRound};
-ghost use Rattle.world_core.specs.World.{IsOperation, IsOpTurn, IsTurn, WorldView, items_of, new_seat, plan_of, seats_of};
-ghost use Rattle.world_core.specs.declared.seats.Seat.{Seat as SeatView};
+ghost use Rattle.seat_turns.specs.Seats.{seats_of};
+ghost use Rattle.world_core.specs.World.{IsOperation, IsOpTurn, IsTurn, WorldView, items_of, plan_of};
+ghost use Rattle.seat_turns.specs.declared.seats.Seat.{Seat as SeatView};
 
 use crate::record::record_of;
-use crate::seats::Seat;
-use crate::turns::event;
-use client_core::{ClientState, Plan, Schedule, Script};
+use client_core::{Plan, Schedule};
 use fs_base::limits::OPERATIONS;
-use fs_base::{Config, Items, Memory};
+use fs_base::{Config, Memory};
 use kv_store::KvState;
 use meta_task::MetaEntry;
 use request_run::sound_store;
 use row_tree::opening_rows;
 use run_record::Record;
+use seat_turns::{Seat, event, new_seats};
 use std::alloc::Global;
 use std::marker::Model;
 
@@ -85,31 +85,6 @@ fn new_store(alloc: Global, config: &Config) -> Result<KvState<MetaEntry>, Memor
     KvState::new(alloc, config, rows)
 }
 
-/// A client that has done nothing yet.
-fn new_seat(alloc: Global, config: Config, script: Script) -> Result<Seat, Memory>
-    requires { IsScript config.servers script }
-    ensures { IfOk result (λ seat. seat ≡ new_seat config script) }
-{
-    let client = ClientState::new(alloc, script, config)?;
-    Ok(Seat {
-        client,
-        work: None,
-        receipts: Items::new(alloc),
-    })
-}
-
-fn new_seats(alloc: Global, config: Config, scripts: Items<Script>) -> Result<Vec<Seat>, Memory>
-    requires { All (IsScript config.servers) scripts }
-    ensures { IfOk result (λ seats. seats.items ≡ seats_of config scripts) }
-{
-    let mut seats = Vec::new(alloc);
-    for script in scripts.into_vec() {
-        let seat = new_seat(alloc, config, script)?;
-        seats.push(seat)?;
-    }
-    Ok(seats)
-}
-
 fn items_in(schedule: &Schedule) -> usize
     ensures { result ≡ length (items_of schedule.now) }
 {
@@ -160,8 +135,8 @@ impl World {
     /// nothing left.
     ///
     /// Where no request of the client is under way, it sends its next one first; where the answer ends the
-    /// request,
-    /// the client learns it in the same turn. A world that wanted memory answers so from then on.
+    /// request, the client learns it in the same turn. So every turn of a client that has something left is one
+    /// ask of the store. A world that wanted memory answers so from then on.
     pub fn turn(&mut self, client: u16) -> Result<Turn, Memory>
         requires { client < length self.old.seats }
         ensures turn { IfOk result (λ turn. IsTurn self.old self.new client turn) }
@@ -308,6 +283,9 @@ impl World {
 
     /// The plan's schedule, and then rounds until no client has anything left: in each, every client that has
     /// does one whole operation.
+    ///
+    /// The order of turns is a clause beside `IsRight`, which holds for every order. No clause counts asks, turns
+    /// or rounds.
     pub fn run(mut self) -> Result<Record, Memory>
         ensures right { IfOk result (λ run. IsRight (plan_of self) run) }
         ensures order { IfOk result (λ run. (last : WorldView) × IsOrdered self last × IsKept last run) }

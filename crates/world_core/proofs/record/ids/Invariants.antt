@@ -1,5 +1,5 @@
 use Rattle.std.proofs.Common.{◌≡◌, map, take}
-use Rattle.world_core.specs.World.{scripts_of}
+use Rattle.seat_turns.specs.Seats.{scripts_of}
 use Rattle.world_core.proofs.record.ids.Given as goal
 
 abbrev pub invariant-loop-seat : goal.invariant-loop-seat

@@ -1,5 +1,5 @@
 use Rattle.std.proofs.Common.{◌≡◌}
-use Rattle.world_core.specs.World.{receipts_in}
+use Rattle.seat_turns.specs.Seats.{receipts_in}
 use Rattle.world_core.proofs.record.receipts.Given as goal
 
 abbrev pub invariant-loop-seat : goal.invariant-loop-seat

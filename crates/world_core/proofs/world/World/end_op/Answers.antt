@@ -1,10 +1,11 @@
 use Rattle.std.proofs.Common.{◌≡◌, ◌≢◌, ◌<◌, ℕ, Some, length, refl, sym, ap, subst, ◌∙◌}
 use Rattle.std.specs.Prelude.{slice_get}
 use Rattle.world_core.specs.World.{WorldView}
-use Rattle.world_core.specs.declared.seats.Seat.{Seat}
-use Rattle.world_core.proofs.Ahead.{ends_one, operation, ops_apart, ops_same, stays, stays_on, turn_goes, turns_on}
+use Rattle.seat_turns.specs.declared.seats.Seat.{Seat}
+use Rattle.seat_turns.proofs.Ahead.{ends_one, ops_apart, ops_same, stays, stays_on}
+use Rattle.world_core.proofs.OrderLaws.{operation, turn_goes, turns_on}
 use Rattle.world_core.proofs.Closing.{same_seats}
-use Rattle.world_core.proofs.Seating.{seat_there}
+use Rattle.seat_turns.proofs.Seating.{seat_there}
 use Rattle.world_core.proofs.world.World.end_op.Goals as goal
 
 pub loop-init : goal.loop-init

@@ -1,5 +1,5 @@
 use Rattle.std.proofs.Common.{◌≡◌, ℕ}
-use Rattle.world_core.specs.Left.{Stays}
+use Rattle.seat_turns.specs.Left.{Stays}
 use Rattle.world_core.specs.World.{AreTurns, plan_of}
 use Rattle.world_core.proofs.world.World.end_op.Given as goal
 

@@ -1,8 +1,8 @@
 use Rattle.std.proofs.Common.{◌≡◌, false, ap, subst, sym, ◌∙◌}
 use Rattle.request_run.specs.Entries.{entries_of}
-use Rattle.world_core.specs.Left.{AreAhead, has_left}
+use Rattle.seat_turns.specs.Left.{AreAhead, has_left}
 use Rattle.world_core.specs.World.{WorldView}
-use Rattle.world_core.proofs.Ahead.{none_left}
+use Rattle.seat_turns.proofs.Ahead.{none_left}
 use Rattle.world_core.proofs.world.World.enough_rounds.Goals as goal
 
 pub returns : goal.returns

@@ -1,7 +1,8 @@
 use Rattle.std.proofs.Common.{sym, subst, IfOk}
 use Rattle.run_record.specs.Right.{IsRight}
-use Rattle.world_core.specs.World.{HaveEnded, WorldView, plan_of}
-use Rattle.world_core.proofs.Ahead.{have_ended}
+use Rattle.seat_turns.specs.Seats.{HaveEnded}
+use Rattle.world_core.specs.World.{WorldView, plan_of}
+use Rattle.seat_turns.proofs.Ahead.{have_ended}
 use Rattle.world_core.specs.Order.{IsKept}
 use Rattle.world_core.proofs.Closing.{few_kept, right_run}
 use Rattle.world_core.proofs.OrderLaws.{kept_of}

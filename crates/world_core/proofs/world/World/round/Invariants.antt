@@ -1,8 +1,8 @@
 use Rattle.std.proofs.Common.{◌≡◌, ℕ, false}
-use Rattle.world_core.specs.Left.{AreAhead}
+use Rattle.seat_turns.specs.Left.{AreAhead}
 use Rattle.world_core.specs.Order.{IsRoundTo}
 use Rattle.world_core.specs.World.{plan_of}
-use Rattle.world_core.proofs.Ahead.{AreAheadTo}
+use Rattle.seat_turns.proofs.Ahead.{AreAheadTo}
 use Rattle.world_core.proofs.world.World.round.Given as goal
 
 abbrev pub invariant-loop-client : goal.invariant-loop-client

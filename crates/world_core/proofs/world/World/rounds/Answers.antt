@@ -1,5 +1,5 @@
 use Rattle.std.proofs.Common.{ℕ, suc, true, ◌≡◌, ◌∙◌, rules, subst, arith}
-use Rattle.world_core.specs.Left.{AreAhead, has_left}
+use Rattle.seat_turns.specs.Left.{AreAhead, has_left}
 use Rattle.world_core.proofs.world.World.rounds.Goals as goal
 
 pub loop-done-preserved : goal.loop-done-preserved

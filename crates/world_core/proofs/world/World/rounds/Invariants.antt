@@ -1,6 +1,6 @@
 use Rattle.std.proofs.Common.{◌≡◌, ℕ, false}
 use Rattle.world_core.specs.Order.{AreRounds}
-use Rattle.world_core.specs.Left.{AreAhead}
+use Rattle.seat_turns.specs.Left.{AreAhead}
 use Rattle.world_core.specs.World.{plan_of}
 use Rattle.world_core.proofs.world.World.rounds.Given as goal
 

@@ -2,10 +2,9 @@ use Rattle.std.proofs.Common.{◌≡◌, ◌<◌, List, Some, length, refl, sym,
 use Rattle.std.specs.Prelude.{slice_get}
 use Rattle.world_core.specs.Objects.{no_histories}
 use Rattle.request_run.specs.Entries.{entries_of}
-use Rattle.world_core.specs.Events.{IsEvent}
-use Rattle.world_core.specs.Left.{GoesOn}
-use Rattle.world_core.specs.declared.seats.Seat.{Seat}
-use Rattle.client_core.specs.declared.plan.Plan.{Plan}
+use Rattle.seat_turns.specs.Events.{IsEvent}
+use Rattle.seat_turns.specs.Left.{GoesOn}
+use Rattle.seat_turns.specs.declared.seats.Seat.{Seat}
 use Rattle.client_core.specs.declared.plan.Script.{Script}
 use Rattle.world_core.specs.World.{WorldView, plan_of}
 use Rattle.world_core.proofs.Closing.{grown_step, not_ended, world_went}

@@ -27,16 +27,17 @@ use Rattle.run_record.specs.ReplyText.{text_of}
 use Rattle.run_record.specs.declared.run.Listed.{Listed}
 use Rattle.request_run.specs.Entries.{IsGrowth, entries_of}
 use Rattle.request_run.specs.Served.{AreEarlier, AreOthers, CameTo, EachOf, IsPending, IsReady, IsServed}
-use Rattle.request_run.proofs.Growing.{AreReceipts-longer, EachOf-longer, IsServed-longer}
+use Rattle.run_record.proofs.Growing.{AreReceipts-longer}
+use Rattle.request_run.proofs.Growing.{EachOf-longer, IsServed-longer}
 use Rattle.request_run.proofs.Rows.{entries-push, length_entries}
 use Rattle.request_run.proofs.Continuing.{for_request, of_task}
-use Rattle.world_core.specs.Events.{Comes, HasLearned}
-use Rattle.world_core.specs.Kept.{AreNamed, HasReceipt, IsPast, IsSeat, IsWork, IsWorking}
-use Rattle.world_core.specs.Left.{IsOneMore}
-use Rattle.world_core.specs.Ready.{is_done}
-use Rattle.world_core.specs.declared.seats.Seat.{Seat}
-use Rattle.world_core.specs.declared.seats.Work.{Work}
-use Rattle.world_core.proofs.Receiving.{listed, named_more, past_more, past_number}
+use Rattle.seat_turns.specs.Events.{Comes, HasLearned}
+use Rattle.seat_turns.specs.Kept.{AreNamed, HasReceipt, IsPast, IsSeat, IsWork, IsWorking, version_after}
+use Rattle.seat_turns.specs.Left.{IsOneMore}
+use Rattle.seat_turns.specs.Ready.{is_done}
+use Rattle.seat_turns.specs.declared.seats.Seat.{Seat}
+use Rattle.seat_turns.specs.declared.seats.Work.{Work}
+use Rattle.seat_turns.proofs.Receiving.{listed, named_more, past_more, past_number}
 
 -- ---- the journal grows
 
@@ -67,12 +68,8 @@ longer store after client (inr grew) =
 module _ (C : Settings) (attempts : ℕ) (es more : List Entry) (short : length (es ++ more) ≤ 200000) where
   past_longer : (k : ℕ) (script : Script) (done : ℕ) (receipts : List Listed) → IsPast C attempts es k script done receipts → IsPast C attempts (es ++ more) k script done receipts
   past_longer k script done receipts h =
-      record {
-        follow = h.follow;
-        each = AreReceipts-longer C es more short attempts script.id receipts h.each;
-        rises = h.rises;
-        within = omega (arith, h.within, length-append es more);
-      }
+      let within : version_after 0 receipts ≤ length (es ++ more) = omega (arith, h.within, length-append es more) in
+      assumption (AreReceipts-longer C es more short attempts script.id receipts h.each)
 
   -- an entry behind a front isn't before it
   named_longer : (client : ClientId) (front : ℕ) (receipts : List Listed) → front ≤ length es → EachOf es client (λ place e. place < front → HasReceipt receipts place) → EachOf (es ++ more) client (λ place e. place < front → HasReceipt receipts place)
@@ -83,27 +80,20 @@ module _ (C : Settings) (attempts : ℕ) (es more : List Entry) (short : length 
   working_longer : (script : Script) (op : ℕ) (receipts : List Listed) (under_way : Option Request) (work : Option Work) → AreOthers more script.id → IsWorking C attempts es script op receipts under_way work → IsWorking C attempts (es ++ more) script op receipts under_way work
   working_longer script op receipts None None others h = EachOf-longer C es more script.id (λ place e. HasReceipt receipts place) (λ behind e at mine. absurd (others behind e at mine)) h
   working_longer script op receipts (Some request) (Some work) others h =
-      record {
-        step = h.step;
-        there = h.there;
-        from = h.from;
-        named = named_longer script.id work.front receipts h.served.met.front_in h.named;
-        served = IsServed-longer C es more attempts (single_request script op h.step) work.front work.task others h.served;
-        pending = h.pending;
-        server = h.server;
-      }
+      search (
+        h.there,
+        named_longer script.id work.front receipts h.served.met.front_in h.named,
+        IsServed-longer C es more attempts (single_request script op h.step) work.front work.task others h.served,
+      )
   working_longer script op receipts None (Some work) others h = absurd h
   working_longer script op receipts (Some request) None others h = absurd h
 
   pub seat_longer : (k : ℕ) (seat : Seat) → AreOthers more seat.client.script.id → IsSeat C attempts es k seat → IsSeat C attempts (es ++ more) k seat
   seat_longer k seat others h =
-      record {
-        config = h.config;
-        script = h.script;
-        client = h.client;
-        past = past_longer k seat.client.script seat.client.op seat.receipts h.past;
-        working = working_longer seat.client.script seat.client.op seat.receipts seat.client.request seat.work others h.working;
-      }
+      assumption (
+        past_longer k seat.client.script seat.client.op seat.receipts h.past,
+        working_longer seat.client.script seat.client.op seat.receipts seat.client.request seat.work others h.working,
+      )
 
 -- ---- what a seat works on
 
@@ -241,15 +231,22 @@ module _ (C : Settings) (attempts : ℕ) (es more : List Entry) (k : ℕ) (befor
   goes_on ready on now =
       let going = still C attempts (es ++ more) (single_request before.client.script before.client.op of.1.step) work.front task next on ready in
       subst (IsSeat C attempts (es ++ more) k) (sym now)
-      (record {
-        config = h.config;
-        script = h.script;
-        client = h.client;
-        past = past;
-        working =
-            subst (λ (o : Option Request). IsWorking C attempts (es ++ more) before.client.script before.client.op before.receipts o (Some (record work { task = task; ask = next }))) (sym of.0.1)
-            (record { step = of.1.step; there = of.1.there; from = of.1.from; named = named; served = going.0; pending = going.1; server = of.1.server });
-      })
+      (assumption (
+        past,
+        subst
+            (λ (o : Option Request). IsWorking C attempts (es ++ more) before.client.script before.client.op before.receipts o
+            (Some (record work { task = task; ask = next })))
+            (sym of.0.1)
+            (record {
+              step = of.1.step;
+              there = of.1.there;
+              from = of.1.from;
+              named = named;
+              served = going.0;
+              pending = going.1;
+              server = of.1.server;
+            }),
+      ))
 
   has_learned : Ready → is_done next ≡ true → HasLearned C k (record before { work = None }) after work.server work.front task → IsSeat C attempts (es ++ more) k after
   has_learned ready done learned =

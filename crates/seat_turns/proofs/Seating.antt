@@ -3,6 +3,7 @@ use Rattle.std.proofs.Common.{◌≡◌, ◌≢◌, ℕ, zero, suc, ◌+◌, ◌
 use Rattle.std.specs.Prelude.{slice_get}
 use Rattle.std.proofs.Math.Seq.{map-set_same}
 use Rattle.std.proofs.lemmas.Bool.{cases_eq}
+use Rattle.std.proofs.lemmas.List.{get_or-set_same, length-set}
 use Rattle.std.proofs.lemmas.List.Elements.{All-head, All-tail}
 use Rattle.std.proofs.lemmas.Option.{slice_get-get_or, slice_get-map, same_Some}
 use Rattle.fs_base.specs.Config.{Settings}
@@ -15,21 +16,20 @@ use Rattle.client_core.specs.declared.plan.Script.{Script}
 use Rattle.run_record.specs.Legal.{EntryAt}
 use Rattle.request_run.specs.Served.{AreCovered, AreOthers}
 use Rattle.request_run.specs.Entries.{IsGrowth, entries_of}
-use Rattle.request_run.proofs.Growing.{at_either}
+use Rattle.run_record.proofs.Growing.{at_either}
 use Rattle.request_run.proofs.Rows.{length_entries}
-use Rattle.world_core.specs.Kept.{IsSeat}
-use Rattle.world_core.specs.Left.{GoesOn, IsOneMore, KeepsOthers}
-use Rattle.world_core.specs.World.{AllSeats, AreSeated, scripts_of, seats_of}
-use Rattle.world_core.specs.declared.seats.Seat.{Seat}
+use Rattle.seat_turns.specs.Kept.{IsSeat}
+use Rattle.seat_turns.specs.Left.{GoesOn, IsOneMore, KeepsOthers}
+use Rattle.seat_turns.specs.Seats.{AllSeats, AreSeated, scripts_of, seats_of}
+use Rattle.seat_turns.specs.declared.seats.Seat.{Seat}
 use Rattle.client_core.proofs.Single.{single_new}
-use Rattle.world_core.proofs.Working.{IsLonger, longer, seat_longer}
+use Rattle.seat_turns.proofs.Working.{IsLonger, longer, seat_longer}
 
 -- ---- places
 
 set_here : (seats : List Seat) (k : ℕ) (y : Seat) → k < length seats → slice_get (set seats k y) k ≡ Some y
-set_here [] k y l = absurd (omega arith)
-set_here (z ∷ seats) zero y l = refl
-set_here (z ∷ seats) (suc k) y l = set_here seats k y (omega arith)
+set_here seats k y l =
+    slice_get-get_or (set seats k y) k y (omega (arith, length-set seats k y)) ∙ ap Some (get_or-set_same seats k y y l)
 
 set_other : (seats : List Seat) (k j : ℕ) (y : Seat) → j ≢ k → slice_get (set seats k y) j ≡ slice_get seats j
 set_other [] k j y n = refl

@@ -1,8 +1,8 @@
 use Rattle.std.proofs.Common.{◌∙◌, Some, ap, sym}
 use Rattle.request_run.specs.Entries.{entries_of}
-use Rattle.world_core.specs.declared.seats.Seat.{Seat}
-use Rattle.world_core.proofs.Working.{idle_by, seat_sent, sent_later, sent_small}
-use Rattle.world_core.proofs.turns.start.Goals as goal
+use Rattle.seat_turns.specs.declared.seats.Seat.{Seat}
+use Rattle.seat_turns.proofs.Working.{idle_by, seat_sent, sent_later, sent_small}
+use Rattle.seat_turns.proofs.turns.start.Goals as goal
 
 pub new_work-requires-clause-small : goal.new_work-requires-clause-small
 new_work-requires-clause-small c = sent_small c.args.config c.args.attempts (entries_of c.args.store.now.journal) c.args.k c.args.seat.now c.requires.seat c.in-Send.server c.in-Send.request

@@ -4,11 +4,11 @@ use Rattle.fs_base.specs.Config.{Settings}
 use Rattle.fs_base.specs.declared.ids.ClientId.{ClientId}
 use Rattle.request_run.specs.Entries.{IsGrowth, entries_of}
 use Rattle.request_run.specs.Served.{AreCovered}
-use Rattle.world_core.specs.Events.{Comes}
-use Rattle.world_core.specs.Ready.{is_done}
-use Rattle.world_core.specs.declared.seats.Seat.{Seat}
-use Rattle.world_core.proofs.Working.{client_is, has_outcome, seat_after, to_serve, work_of}
-use Rattle.world_core.proofs.turns.go_on.Goals as goal
+use Rattle.seat_turns.specs.Events.{Comes}
+use Rattle.seat_turns.specs.Ready.{is_done}
+use Rattle.seat_turns.specs.declared.seats.Seat.{Seat}
+use Rattle.seat_turns.proofs.Working.{client_is, has_outcome, seat_after, to_serve, work_of}
+use Rattle.seat_turns.proofs.turns.go_on.Goals as goal
 
 pub advance-requires-clause-served : goal.advance-requires-clause-served
 advance-requires-clause-served c = (to_serve c.args.config c.args.store.now.config c.args.attempts c.args.k c.args.store.now c.args.seat.now c.in-Some.work c.requires.config c.requires.seat (sym c.take_work.ensures.work ∙ c.in-Some.is)).0

@@ -2,10 +2,10 @@ use Rattle.std.proofs.Common.{OnOk}
 use Rattle.std.proofs.lemmas.Result.{on_ok_weaker}
 use Rattle.request_run.specs.Entries.{IsGrowth, entries_of}
 use Rattle.request_run.proofs.Continuing.{config_grown, open_grown}
-use Rattle.world_core.specs.Events.{IsEvent}
-use Rattle.world_core.proofs.EventLaws.{op_event}
-use Rattle.world_core.proofs.Seating.{each_there, event_there, goes_there, scripts_there, seat_there, seated_there}
-use Rattle.world_core.proofs.turns.event.Goals as goal
+use Rattle.seat_turns.specs.Events.{IsEvent}
+use Rattle.seat_turns.proofs.EventLaws.{op_event}
+use Rattle.seat_turns.proofs.Seating.{each_there, event_there, goes_there, scripts_there, seat_there, seated_there}
+use Rattle.seat_turns.proofs.turns.event.Goals as goal
 
 pub turn-requires-clause-left : goal.turn-requires-clause-left
 turn-requires-clause-left c = c.requires.left c.index_mut.result.now (seat_there c.args.seats.now.items c.from.result c.args.k c.index_mut.result.now c.from.ensures c.requires.within c.index_mut.ensures.value)

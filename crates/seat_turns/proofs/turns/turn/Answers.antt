@@ -2,8 +2,8 @@ use Rattle.std.proofs.Common.{length, refl, subst}
 use Rattle.std.proofs.lemmas.Result.{on_ok_weaker}
 use Rattle.request_run.specs.Entries.{IsGrowth, entries_of}
 use Rattle.client_core.specs.declared.plan.Script.{Script}
-use Rattle.world_core.proofs.EventLaws.{work_there}
-use Rattle.world_core.proofs.turns.turn.Goals as goal
+use Rattle.seat_turns.proofs.EventLaws.{work_there}
+use Rattle.seat_turns.proofs.turns.turn.Goals as goal
 
 pub go_on-requires-clause-there : goal.go_on-requires-clause-there
 go_on-requires-clause-there c = work_there c.args.config c.args.attempts (length (entries_of c.args.store.now.journal)) c.args.seat.now c.start.new.seat c.args.seat.now.work refl c.in_ok-start.ensures.at_work

@@ -2,7 +2,7 @@
 use Rattle.std.specs.Prelude.{◌≡◌, ◌≢◌, ◌⊎◌, ◌≤◌, ℕ, ◌+◌, List, length, slice_get, Some, Bool, not}
 use Rattle.std.specs.List.{list_any}
 use Rattle.client_core.specs.Client.{has_ended}
-use Rattle.world_core.specs.declared.seats.Seat.{Seat}
+use Rattle.seat_turns.specs.declared.seats.Seat.{Seat}
 
 -- some client has something left
 abbrev pub has_left : List Seat → Bool

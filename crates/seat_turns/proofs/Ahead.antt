@@ -1,5 +1,5 @@
 -- Turns, operations and rounds bring clients nearer to their scripts' ends.
-use Rattle.std.proofs.Common.{◌≡◌, ◌≢◌, ℕ, suc, ◌+◌, ◌<◌, ◌≤◌, inl, inr, Bool, true, false, not, ◌||◌, List, [], ◌∷◌, Some, None, length, get_or, refl, sym, ap, subst, ◌∙◌, arith}
+use Rattle.std.proofs.Common.{◌≡◌, ◌≢◌, ℕ, suc, ◌+◌, ◌<◌, ◌≤◌, inl, inr, Bool, true, false, not, ◌||◌, List, [], ◌∷◌, Some, None, length, get_or, refl, sym, ap, ◌∙◌, arith}
 use Rattle.std.specs.Prelude.{slice_get}
 use Rattle.std.specs.List.{list_any}
 use Rattle.std.proofs.lemmas.Bool.{cases_Bool, cases_eq}
@@ -8,18 +8,15 @@ use Rattle.std.proofs.lemmas.Option.{get_or_from_slice_get, slice_get_within, sa
 use Rattle.fs_base.specs.Config.{Settings}
 use Rattle.txn_task.specs.declared.messages.Entry.{Entry}
 use Rattle.client_core.specs.Client.{ClientView, has_ended}
-use Rattle.client_core.specs.declared.plan.Plan.{Plan}
 use Rattle.client_core.specs.declared.plan.Script.{Script}
-use Rattle.world_core.specs.Kept.{IsSeat}
-use Rattle.world_core.specs.Left.{AreAhead, EndsOne, GoesOn, IsAhead, KeepsOthers, Stays, has_left}
-use Rattle.world_core.specs.World.{AllSeats, AreTurns, HaveEnded, IsOpTurn, IsOperation, IsTurn, WorldView, plan_of, scripts_of}
-use Rattle.world_core.specs.declared.world.Turn.{Turn}
-use Rattle.world_core.specs.declared.world.Turn.TheVariants as turns
-use Rattle.world_core.specs.declared.seats.Seat.{Seat}
+use Rattle.seat_turns.specs.Kept.{IsSeat}
+use Rattle.seat_turns.specs.Left.{AreAhead, EndsOne, GoesOn, IsAhead, KeepsOthers, Stays, has_left}
+use Rattle.seat_turns.specs.Seats.{AllSeats, HaveEnded, scripts_of}
+use Rattle.seat_turns.specs.declared.seats.Seat.{Seat}
 use Rattle.client_core.proofs.Ending.{ended_is, has_ended_by}
 use Rattle.request_run.proofs.History.{at_there}
-use Rattle.world_core.proofs.Seating.{script_at}
-use Rattle.world_core.proofs.Working.{all_done}
+use Rattle.seat_turns.proofs.Seating.{script_at}
+use Rattle.seat_turns.proofs.Working.{all_done}
 
 -- ---- turns of one operation
 
@@ -48,11 +45,6 @@ module _ (old mid new : List Seat) (k : ℕ) (within : k < length mid) (so_far :
             | inr more ↦ more ∙ ap (λ n. n + 1) same
           ]
 
--- a turn, whatever it did
-pub turn_goes : (old new : WorldView) (k : ℕ) (turn : Turn) → IsTurn old new k turn → GoesOn old.seats new.seats k
-turn_goes old new k turns.Idle h = subst (λ (w : WorldView). GoesOn old.seats w.seats k) (sym h.1) (record { others = λ j apart. refl; own = λ before after at_before at_after. inl (ap (λ (s : Seat). s.client.op) (same_Some after before (sym at_after ∙ at_before))) })
-turn_goes old new k turns.Went h = h.seats
-
 module _ (old new : List Seat) (k : ℕ) (x y : Seat) (m n : ℕ) (at_x : slice_get old k ≡ Some x) (at_y : slice_get new k ≡ Some y) (is_m : m ≡ x.client.op) (is_n : n ≡ y.client.op) where
   op_of : (seats : List Seat) (x seat : Seat) → slice_get seats k ≡ Some x → slice_get seats k ≡ Some seat → x.client.op ≡ seat.client.op
   op_of seats x seat at_x at = ap (λ (s : Seat). s.client.op) (same_Some x seat (sym at_x ∙ at))
@@ -63,28 +55,11 @@ module _ (old new : List Seat) (k : ℕ) (x y : Seat) (m n : ℕ) (at_x : slice_
   pub ops_apart : n ≢ m → (before after : Seat) → slice_get old k ≡ Some before → slice_get new k ≡ Some after → after.client.op ≢ before.client.op
   ops_apart apart before after at_before at_after e = apart (is_n ∙ (op_of new y after at_y at_after ∙ (e ∙ (sym (op_of old x before at_x at_before) ∙ sym is_m))))
 
--- one turn more, where it went on
-pub turns_on : (old mid new : WorldView) (k : ℕ) (turn : Turn) → ((count : ℕ) × AreTurns old mid k count) → IsTurn mid new k turn → (count : ℕ) × AreTurns old new k count
-turns_on old mid new k turns.Idle so_far h = (so_far.0, subst (λ (w : WorldView). AreTurns old w k so_far.0) (sym h.1) so_far.1)
-turns_on old mid new k turns.Went so_far h = (suc so_far.0, (mid, so_far.1, h))
-
--- the last of an operation's turns
-pub operation : (old mid new : WorldView) (k : ℕ) (turn : Turn) → k < length old.seats → k < length mid.seats → Stays old.seats mid.seats k → ((count : ℕ) × AreTurns old mid k count) → IsTurn mid new k turn
-    → ((before after : Seat) → slice_get old.seats k ≡ Some before → slice_get new.seats k ≡ Some after → after.client.op ≢ before.client.op) → IsOperation old new k
-operation old mid new k turns.Went from within none so_far h more = record { count = so_far.0; mid = mid; before = so_far.1; none = none; last = h }
-operation old mid new k turns.Idle from within none so_far h more =
-    let here = at_there mid.seats k within in
-    let first = at_there old.seats k from in
-    absurd (more first.0 here.0 first.1 (ap (λ (w : WorldView). slice_get w.seats k) h.1 ∙ here.1) (none.own first.0 here.0 first.1 here.1))
-
 -- ---- rounds
 
 -- the clients before c have been asked for one more operation than the others
 abbrev pub AreAheadTo : ℕ → ℕ → List Seat → Type 0
 AreAheadTo rounds c seats = (k : ℕ) (seat : Seat) → slice_get seats k ≡ Some seat → IsAhead rounds seat × (k < c → IsAhead (rounds + 1) seat)
-
-pub ahead_to : (rounds : ℕ) (seats : List Seat) → AreAhead rounds seats → AreAheadTo rounds 0 seats
-ahead_to rounds seats h k seat at = (h k seat at, λ none. absurd (omega arith))
 
 pub ahead_more : (rounds c : ℕ) (seats : List Seat) → length seats ≤ c → AreAheadTo rounds c seats → AreAhead (rounds + 1) seats
 ahead_more rounds c seats all h k seat at = let l : k < length seats = slice_get_within seats k seat at in (h k seat at).1 (omega arith)
@@ -129,11 +104,6 @@ ahead_went rounds c old new l scripts one h k seat at = elim (cases_eq k c) [ in
     other apart =
         let was : IsAhead rounds seat × (k < c → IsAhead (rounds + 1) seat) = h k seat (sym (one.others k apart) ∙ at) in
         (was.0, λ below. was.1 (omega arith))
-
--- a whole operation, whatever it did
-pub op_ahead : (rounds c : ℕ) (old new : WorldView) (turn : Turn) → c < length old.seats → plan_of new ≡ plan_of old → IsOpTurn old new c turn → AreAheadTo rounds c old.seats → AreAheadTo rounds (c + 1) new.seats
-op_ahead rounds c old new turns.Idle l same h ahead = subst (λ (w : WorldView). AreAheadTo rounds (c + 1) w.seats) (sym h.1) (ahead_idle rounds c old.seats h.0 ahead)
-op_ahead rounds c old new turns.Went l same h ahead = ahead_went rounds c old.seats new.seats l (ap (λ (p : Plan). p.clients) same) h.1 ahead
 
 -- ---- no more is left
 

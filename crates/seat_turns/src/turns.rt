@@ -1,6 +1,6 @@
 //! The clients' part of a turn.
 
-ghost use Rattle.std.specs.Prelude.{◌≡◌, ◌⊎◌, ◌≤◌, ◌<◌, ◌+◌, ◌++◌, ◌∷◌, ◌^◌, [], ℕ, List, Some, None, true, false, length, slice_get, replicate, IfOk, OnOk};
+ghost use Rattle.std.specs.Prelude.{◌≡◌, ◌≤◌, ◌<◌, ◌∷◌, ◌^◌, [], Some, None, true, false, length, slice_get, IfOk, OnOk};
 ghost use Rattle.client_core.specs.Client.{end_call, send, IsSending};
 ghost use Rattle.client_core.specs.declared.messages.ClientAsk.TheVariants as client_asks;
 ghost use Rattle.fs_base.specs.declared.call.Request.{Request as RequestView};
@@ -13,16 +13,16 @@ ghost use Rattle.txn_task.specs.declared.outcome.Outcome.{Outcome};
 ghost use Rattle.txn_task.specs.declared.outcome.Receipt.{Receipt};
 ghost use Rattle.client_core.specs.Plans.{AreDistinct};
 ghost use Rattle.request_run.specs.Served.{AreCovered, AreEarlier, IsPending, IsReady, IsServed};
-ghost use Rattle.world_core.specs.Kept.{IsSeat};
-ghost use Rattle.world_core.specs.World.{AreSeated, scripts_of};
+ghost use Rattle.seat_turns.specs.Kept.{IsSeat};
+ghost use Rattle.seat_turns.specs.Seats.{AreSeated, scripts_of};
 ghost use Rattle.client_core.specs.Client.{has_ended};
-ghost use Rattle.world_core.specs.Events.{Comes, HasExchanged, HasLearned, IsAtWork, IsEvent};
-ghost use Rattle.world_core.specs.Left.{GoesOn};
-ghost use Rattle.world_core.specs.declared.seats.Work.{Work as WorkView};
-ghost use Rattle.world_core.specs.declared.seats.Seat.{Seat as SeatView};
+ghost use Rattle.seat_turns.specs.Events.{Comes, HasExchanged, HasLearned, IsAtWork, IsEvent};
+ghost use Rattle.seat_turns.specs.Left.{GoesOn};
+ghost use Rattle.seat_turns.specs.declared.seats.Work.{Work as WorkView};
+ghost use Rattle.seat_turns.specs.declared.seats.Seat.{Seat as SeatView};
 ghost use Rattle.request_run.specs.Entries.{IsGrowth, entries_of};
 ghost use Rattle.request_run.specs.Answered.{IsExchange};
-ghost use Rattle.world_core.specs.Ready.{is_done};
+ghost use Rattle.seat_turns.specs.Ready.{is_done};
 ghost use Rattle.request_run.specs.Sound.{IsOpen};
 
 use crate::seats::{Seat, Work};
@@ -105,7 +105,7 @@ fn new_work(
 }
 
 /// Sends the client's next request, where none is under way.
-pub(crate) fn start(
+fn start(
     alloc: Global,
     store: &KvState<MetaEntry>,
     config: Config,
@@ -340,8 +340,11 @@ fn turn(
     go_on(alloc, store, config, attempts, k, seat)
 }
 
-/// One turn of the client at this place.
-pub(crate) fn event(
+/// One turn of the client at this place: at most one ask, answered by the store.
+///
+/// Where no request of the client is under way, it sends its next one first; where the answer ends the
+/// request, the client learns it in the same turn.
+pub fn event(
     alloc: Global,
     store: &mut KvState<MetaEntry>,
     config: Config,

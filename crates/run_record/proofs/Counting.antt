@@ -1,5 +1,5 @@
--- How many conflicts the receipts of a run have.
-use Rattle.std.proofs.Common.{◌≡◌, ℕ, suc, ◌+◌, ◌*◌, ◌^◌, ◌<◌, ◌≤◌, List, [], ◌∷◌, ◌++◌, length, sym, refl, ap, ◌∙◌, append-nil, append_assoc, arith}
+-- How many conflicts receipts have: each of theirs is an entry's, and there is a receipt for each operation.
+use Rattle.std.proofs.Common.{◌≡◌, ℕ, suc, ◌+◌, ◌*◌, ◌^◌, ◌<◌, ◌≤◌, List, [], ◌∷◌, length, refl, ap, ◌∙◌, arith}
 use Rattle.fs_base.specs.Config.{Settings}
 use Rattle.fs_base.specs.declared.ids.ClientId.{ClientId}
 use Rattle.key_schema.specs.declared.key.Key.{Key}
@@ -15,13 +15,6 @@ use Rattle.histories.proofs.Lists.{at_within}
 use Rattle.run_record.proofs.Counts.{conflicts-append}
 use Rattle.run_record.proofs.Replaying.{follows}
 use Rattle.run_record.proofs.Served.{served}
-use Rattle.world_core.specs.World.{receipts_in}
-use Rattle.world_core.specs.declared.seats.Seat.{Seat}
-
-pub receipts-push : (seats : List Seat) (seat : Seat) → receipts_in (seats ++ seat ∷ []) ≡ receipts_in seats ++ seat.receipts
-receipts-push [] seat = append-nil seat.receipts
-receipts-push (x ∷ seats) seat =
-    ap (λ (rest : List Listed). x.receipts ++ rest) (receipts-push seats seat) ∙ sym (append_assoc x.receipts (receipts_in seats) seat.receipts)
 
 -- ---- one receipt
 
@@ -39,11 +32,8 @@ conflicts_above journal client floor (pair ∷ pairs) h low =
 conflicts_few : (journal : List Entry) (client : ClientId) (floor : ℕ) (pairs : List (ℕ × Key)) → AreLater journal client floor pairs → length pairs ≤ length journal
 conflicts_few journal client floor [] h = omega arith
 conflicts_few journal client floor (pair ∷ pairs) h =
-    let one : NamesLater journal client floor pair = h.0 in
-    let d : pair.0 ≡ one.place + 1 = one.version in
-    let e : one.place < length journal = at_within journal one.place one.entry one.at in
-    let rest : pair.0 + length pairs ≤ length journal = conflicts_above journal client pair.0 pairs h.1 (omega arith) in
-    omega arith
+    let within : h.0.place < length journal = at_within journal h.0.place h.0.entry h.0.at in
+    omega (arith, conflicts_above journal client floor (pair ∷ pairs) h (omega (arith, h.0.later)))
 
 -- ---- all receipts
 

@@ -14,9 +14,9 @@ use Rattle.client_core.specs.declared.messages.ClientAsk.TheVariants as client_a
 use Rattle.run_record.specs.Receipts.{fronts_of}
 use Rattle.run_record.specs.ReplyText.{text_of}
 use Rattle.request_run.specs.Answered.{IsExchange}
-use Rattle.world_core.specs.Ready.{is_done}
-use Rattle.world_core.specs.declared.seats.Seat.{Seat}
-use Rattle.world_core.specs.declared.seats.Work.{Work}
+use Rattle.seat_turns.specs.Ready.{is_done}
+use Rattle.seat_turns.specs.declared.seats.Seat.{Seat}
+use Rattle.seat_turns.specs.declared.seats.Work.{Work}
 
 -- ---- a request begins
 

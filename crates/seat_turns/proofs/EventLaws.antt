@@ -5,11 +5,11 @@ use Rattle.txn_task.specs.declared.messages.Entry.{Entry}
 use Rattle.client_core.specs.Client.{ClientView, send}
 use Rattle.client_core.specs.declared.messages.ClientAsk.{ClientAsk}
 use Rattle.client_core.specs.declared.plan.Op.{Op}
-use Rattle.world_core.specs.Events.{IsAtWork, IsEvent}
-use Rattle.world_core.specs.Left.{IsOneMore}
-use Rattle.world_core.specs.declared.seats.Seat.{Seat}
-use Rattle.world_core.specs.declared.seats.Work.{Work}
-use Rattle.world_core.proofs.Working.{op_comes}
+use Rattle.seat_turns.specs.Events.{IsAtWork, IsEvent}
+use Rattle.seat_turns.specs.Left.{IsOneMore}
+use Rattle.seat_turns.specs.declared.seats.Seat.{Seat}
+use Rattle.seat_turns.specs.declared.seats.Work.{Work}
+use Rattle.seat_turns.proofs.Working.{op_comes}
 
 -- a request is under way
 pub work_there : (C : Settings) (attempts front : ℕ) (before after : Seat) (w : Option Work) → before.work ≡ w → IsAtWork C attempts front before after w → (work : Work) × (after.work ≡ Some work)

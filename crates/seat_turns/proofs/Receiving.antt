@@ -1,5 +1,5 @@
 -- A client keeps a receipt of what its request came to.
-use Rattle.std.proofs.Common.{◌≡◌, ℕ, zero, suc, ◌≤◌, ◌<◌, ◌+◌, inl, inr, List, [], ◌∷◌, ◌++◌, Some, None, true, length, take, sym, ◌∙◌, ap, refl, subst, arith, add-one}
+use Rattle.std.proofs.Common.{◌≡◌, ℕ, zero, suc, ◌≤◌, ◌<◌, ◌+◌, inl, inr, List, [], ◌∷◌, ◌++◌, Some, true, length, take, sym, ◌∙◌, ap, refl, subst, arith, add-one}
 use Rattle.std.specs.Prelude.{slice_get}
 use Rattle.std.proofs.lemmas.Bool.{cases_lt}
 use Rattle.std.proofs.lemmas.Option.{same_Some}
@@ -15,13 +15,14 @@ use Rattle.client_core.specs.declared.plan.Script.{Script}
 use Rattle.run_record.specs.Legal.{EntryAt}
 use Rattle.run_record.specs.Outcomes.{seen_by, NamesEntry}
 use Rattle.run_record.specs.Follow.{Follow}
-use Rattle.run_record.specs.Receipts.{fronts_of, front_of, outcome_of, AreReceipts, IsMadeBy, IsOf, IsReceipt, IsServed, MayMeetAll, Rises}
+use Rattle.run_record.specs.Receipts.{fronts_of, front_of, outcome_of, AreReceipts, IsMadeBy, IsReceipt, IsServed, MayMeetAll, Rises}
 use Rattle.run_record.specs.ReplyText.{text_of}
 use Rattle.run_record.specs.declared.run.Listed.{Listed}
 use Rattle.run_record.proofs.Naming.{of_commit}
+use Rattle.run_record.proofs.OneMore.{AreReceipts-push, Follow-push, IsNext, take_more}
 use Rattle.run_record.proofs.Served.{one_request, served}
 use Rattle.request_run.specs.Served.{CameTo, EachOf}
-use Rattle.world_core.specs.Kept.{AreNamed, HasReceipt, IsPast, version_after}
+use Rattle.seat_turns.specs.Kept.{AreNamed, HasReceipt, IsPast, version_after}
 
 -- ---- one receipt more
 
@@ -33,10 +34,6 @@ HasReceipt_new : (rs : List Listed) (r : Listed) (place : ℕ) → (r.receipt.co
 HasReceipt_new [] r place is = inl is
 HasReceipt_new (x ∷ rs) r place is = inr (HasReceipt_new rs r place is)
 
-AreReceipts-push : (C : Settings) (attempts : ℕ) (es : List Entry) (client : ClientId) (rs : List Listed) (r : Listed) → AreReceipts C attempts es client rs → IsReceipt C attempts es client r → AreReceipts C attempts es client (rs ++ r ∷ [])
-AreReceipts-push C attempts es client [] r h n = (n, tt)
-AreReceipts-push C attempts es client (x ∷ rs) r h n = (h.0, AreReceipts-push C attempts es client rs r h.1 n)
-
 Rises-push : (floor : ℕ) (rs : List Listed) (r : Listed) → Rises floor rs → version_after floor rs ≤ front_of r.fronts → front_of r.fronts ≤ r.receipt.version → Rises floor (rs ++ r ∷ [])
 Rises-push floor [] r h from up = (from, up, tt)
 Rises-push floor (x ∷ rs) r h from up = (h.0, h.1, Rises-push (seen_by (outcome_of x.receipt)) rs r h.2 from up)
@@ -44,30 +41,6 @@ Rises-push floor (x ∷ rs) r h from up = (h.0, h.1, Rises-push (seen_by (outcom
 version_after-push : (floor : ℕ) (rs : List Listed) (r : Listed) → version_after floor (rs ++ r ∷ []) ≡ seen_by (outcome_of r.receipt)
 version_after-push floor [] r = refl
 version_after-push floor (x ∷ rs) r = version_after-push (seen_by (outcome_of x.receipt)) rs r
-
--- the receipt is that of the operation with this ordinal
-abbrev IsNext : ℕ → Script → ℕ → Op → Listed → Type 0
-IsNext k script op step r = (r.client ≡ k) × (r.receipt.op ≡ op) × IsOf (single_request script op step) r.receipt × (r.receipt.gone ≡ [])
-
-Follow-push : (k : ℕ) (script : Script) (from : ℕ) (steps : List Op) (step : Op) (rs : List Listed) (r : Listed) → Follow k script from steps rs → IsNext k script (from + length steps) step r → Follow k script from (steps ++ step ∷ []) (rs ++ r ∷ [])
-Follow-push k script from [] step [] r f n =
-    let same : from + 0 ≡ from = omega arith in
-    let next : IsNext k script from step r = subst (λ op. IsNext k script op step r) same n in
-    (next.0, next.1, next.2, next.3, tt)
-Follow-push k script from [] step (x ∷ rs) r f n = absurd f
-Follow-push k script from (first ∷ steps) step [] r f n = absurd f
-Follow-push k script from (first ∷ steps) step (x ∷ rs) r (client, op_is, of, gone, rest) n =
-    let same : from + length (first ∷ steps) ≡ (from + 1) + length steps = omega arith in
-    (client, op_is, of, gone, Follow-push k script (from + 1) steps step rs r rest (subst (λ op. IsNext k script op step r) same n))
-
--- one operation more
-take_more : (steps : List Op) (n : ℕ) (step : Op) → slice_get steps n ≡ Some step → (take (suc n) steps ≡ take n steps ++ step ∷ []) × (n ≡ 0 + length (take n steps))
-take_more [] n step at = absurd (let k : None ≡ Some step = at in cc)
-take_more (x ∷ steps) zero step at = (ap (λ (y : Op). y ∷ []) (same_Some x step at), refl)
-take_more (x ∷ steps) (suc n) step at =
-    let rest : (take (suc n) steps ≡ take n steps ++ step ∷ []) × (n ≡ 0 + length (take n steps)) = take_more steps n step at in
-    let count : n ≡ 0 + length (take n steps) = rest.1 in
-    (ap (λ (ys : List Op). x ∷ ys) rest.0, omega arith)
 
 -- ---- what a request came to
 

@@ -13,8 +13,8 @@ use Rattle.run_record.specs.Follow.{Follow}
 use Rattle.run_record.specs.Receipts.{outcome_of, AreReceipts, Rises}
 use Rattle.run_record.specs.declared.run.Listed.{Listed}
 use Rattle.request_run.specs.Served.{EachOf, IsPending, IsServed}
-use Rattle.world_core.specs.declared.seats.Seat.{Seat}
-use Rattle.world_core.specs.declared.seats.Work.{Work}
+use Rattle.seat_turns.specs.declared.seats.Seat.{Seat}
+use Rattle.seat_turns.specs.declared.seats.Work.{Work}
 
 -- ---- what is done
 
@@ -37,6 +37,7 @@ HasReceipt [] place = ⊥
 HasReceipt (listed ∷ rest) place =
     ((listed.receipt.committed ≡ true) × (listed.receipt.version ≡ place + 1)) ⊎ HasReceipt rest place
 
+-- each entry of the client has a receipt
 abbrev pub AreNamed : List Entry → ClientId → List Listed → Type 0
 AreNamed journal client receipts = EachOf journal client (λ place entry. HasReceipt receipts place)
 

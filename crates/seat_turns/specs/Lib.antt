@@ -1,0 +1,5 @@
+pub mod Events
+pub mod Kept
+pub mod Left
+pub mod Ready
+pub mod Seats
