@@ -15,10 +15,11 @@ use Rattle.run_record.specs.Legal.{journal_rows, tree_at}
 use Rattle.run_record.specs.Right.{waiting_in}
 use Rattle.txn_task.specs.declared.messages.Entry.{Entry}
 use Rattle.request_run.proofs.Answering.{page_same}
-use Rattle.request_run.proofs.History.{entry_sound, rows_ascend, rows_tree}
+use Rattle.run_record.proofs.History.{entry_sound, rows_ascend, rows_tree}
 use Rattle.request_run.proofs.Rows.{length_entries}
 use Rattle.request_run.specs.Entries.{entries_of}
-use Rattle.request_run.specs.Sound.{IsOpen, IsSoundJournal}
+use Rattle.run_record.specs.Sound.{IsSoundJournal}
+use Rattle.request_run.specs.Sound.{IsOpen}
 
 -- a page of more than there are entries has them all
 pub page_waits : (store : Store MetaEntry) (front limit : ℕ) (l h : List ℕ) (rows : List Row) → IsOpen store
