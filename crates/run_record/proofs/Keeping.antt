@@ -119,7 +119,7 @@ update_keeps C T q (calls.Symlink place target) is =
     by_words (Keeps T) (path_of place.text) _ (λ code. tt) (λ path. by_words (Keeps T) (path_of target) _ (λ code. tt) (λ leads. made C T q.server q.stamp (new_link target) (resolve T place.base path Parent)))
 update_keeps C T q (calls.Setattr place changes) is = by_words (Keeps T) (path_of place.text) _ (λ code. tt) (λ path. by_node (Keeps T) T (resolve T place.base path Follow) _ (λ code. tt) (λ id node. (refl, same T)))
 update_keeps C T q (calls.Link from to) is = link_is (Keeps T) T q.stamp (λ code. tt) (λ dir name id node is. (refl, same T)) from to
-update_keeps C T q (calls.Unlink place) is = 
+update_keeps C T q (calls.Unlink place) is =
     unlink_is (Keeps T) T q.stamp (λ code. tt) (λ dir name id. (refl, same T)) (λ dir name id node is. (refl, same T))
     (λ dir name id node is. (refl, one_more T id)) place
 update_keeps C T q (calls.Rmdir place) is = rmdir_is (Keeps T) T q.stamp (λ code. tt) (λ dir name id. (refl, same T)) place
