@@ -1,6 +1,6 @@
 pub mod Ending
 pub mod Fits
+pub mod Courses
 pub mod Moved
 pub mod Replayed
 pub mod Scripts
-pub mod Single

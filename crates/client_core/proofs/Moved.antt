@@ -11,7 +11,6 @@ use Rattle.client_core.specs.Client.{ClientView, client_step, end_call, new_clie
 use Rattle.client_core.specs.Moved.{IsAtPlace, IsInScript, moved}
 use Rattle.client_core.specs.Ops.{request_of}
 use Rattle.client_core.specs.Plans.{IsScript}
-use Rattle.client_core.specs.Single.{IsAt, IsClient}
 use Rattle.client_core.specs.declared.messages.ClientAnswer.{ClientAnswer}
 use Rattle.client_core.specs.declared.messages.ClientAnswer.TheVariants as answers
 use Rattle.client_core.specs.declared.plan.Op.{Op}
@@ -77,11 +76,3 @@ in_script_step c (answers.Replied server outcome) h fits = in_script_end c serve
 in_script_step c (answers.Gone server stop) h fits = in_script_again c (server, stop) c.request refl h
 in_script_step c answers.Start h fits = in_script_send c (slice_get c.script.ops c.op) refl h ((idle_by c.request answers.Start fits).0 refl)
 in_script_step c answers.Next h fits = in_script_send c (slice_get c.script.ops c.op) refl h ((idle_by c.request answers.Next fits).1 refl)
-
--- one that nothing has moved is such a client
-pub in_script_home : (c : ClientView) → IsClient c → IsInScript c
-in_script_home c h = record { script = h.script; server = subst (λ n. n < c.config.servers) (sym h.at_home) h.script.home; place = place c.request h.place }
-  where
-    place : (o : Option Request) → IsAt c o → IsAtPlace c o
-    place None at = at
-    place (Some request) at = (at.0, at.1, at.2 ∙ ap (λ n. request_of c.script.id n (c.op + 1) at.0) (sym h.at_home), at.3)

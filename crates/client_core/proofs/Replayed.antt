@@ -27,7 +27,7 @@ module _ (C : Settings) (script : Script) where
   request_at server op step = request_of script.id server (op + 1) step
 
   -- and the client that has sent it, behind these stops
-  abbrev sent_at : ℕ → List (ℕ × ℕ) → ℕ → Op → ClientView × ClientAsk
+  abbrev pub sent_at : ℕ → List (ℕ × ℕ) → ℕ → Op → ClientView × ClientAsk
   sent_at server gone op step =
       (record (client_at server op) { number = op + 1; gone = gone; request = Some (request_at server op step) }, asks.Send server (request_at server op step))
 
@@ -36,7 +36,7 @@ module _ (C : Settings) (script : Script) where
   course_receipt server op step course =
       let last = moved C server course.stops in receipt_of op (request_at last op step) last (gone_from C server course.stops) course.outcome
 
-  again_there : (stops : List ℕ) (server : ℕ) (gone : List (ℕ × ℕ)) (op : ℕ) (step : Op)
+  pub again_there : (stops : List ℕ) (server : ℕ) (gone : List (ℕ × ℕ)) (op : ℕ) (step : Op)
       → sent_again stops (sent_at server gone op step) ≡ sent_at (moved C server stops) (gone ++ gone_from C server stops) op step
   again_there [] server gone op step = ap (λ (g : List (ℕ × ℕ)). sent_at server g op step) (sym (append-nil gone))
   again_there (stop ∷ stops) server gone op step =
@@ -52,7 +52,7 @@ module _ (C : Settings) (script : Script) where
       ∙ ap (replied course.outcome) (again_there course.stops server [] op step)
 
   -- behind the last operation nothing changes
-  ended_there : (stops : List ℕ) (server op : ℕ) → slice_get script.ops op ≡ None → sent_again stops (client_at server op, asks.Ended) ≡ (client_at server op, asks.Ended)
+  pub ended_there : (stops : List ℕ) (server op : ℕ) → slice_get script.ops op ≡ None → sent_again stops (client_at server op, asks.Ended) ≡ (client_at server op, asks.Ended)
   ended_there [] server op none = refl
   ended_there (stop ∷ stops) server op none =
       ap (λ (o : Option Op). sent_again stops (send (client_at server op) o)) none ∙ ended_there stops server op none
@@ -64,7 +64,7 @@ module _ (C : Settings) (script : Script) where
 
   -- ---- after any replay
 
-  there_or_end : (steps : List Op) (n : ℕ) → ((step : Op) × (slice_get steps n ≡ Some step)) ⊎ (slice_get steps n ≡ None)
+  pub there_or_end : (steps : List Op) (n : ℕ) → ((step : Op) × (slice_get steps n ≡ Some step)) ⊎ (slice_get steps n ≡ None)
   there_or_end steps n = of (slice_get steps n) refl
     where
       of : (o : Option Op) → slice_get steps n ≡ o → ((step : Op) × (slice_get steps n ≡ Some step)) ⊎ (slice_get steps n ≡ None)

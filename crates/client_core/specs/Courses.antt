@@ -1,9 +1,9 @@
 -- Requests that stops of servers take away, and what a client comes to over them.
-use Rattle.std.specs.Prelude.{ℕ, List, [], ◌∷◌, ◌++◌}
+use Rattle.std.specs.Prelude.{◌≡◌, ℕ, ◌+◌, List, [], ◌∷◌, ◌++◌, Option, Some, None}
+use Rattle.fs_base.specs.declared.call.Request.{Request}
 use Rattle.txn_task.specs.declared.outcome.Outcome.{Outcome}
 use Rattle.txn_task.specs.declared.outcome.Receipt.{Receipt}
 use Rattle.client_core.specs.Client.{ClientView, client_step}
-use Rattle.client_core.specs.Replay.{receipts_in, reply_to}
 use Rattle.client_core.specs.declared.messages.ClientAnswer.{ClientAnswer}
 use Rattle.client_core.specs.declared.messages.ClientAnswer.TheVariants as answers
 use Rattle.client_core.specs.declared.messages.ClientAsk.{ClientAsk}
@@ -25,6 +25,15 @@ abbrev pub sent_again : List ℕ → ClientView × ClientAsk → ClientView × C
 sent_again [] sent = sent
 sent_again (stop ∷ stops) sent = sent_again stops (client_step sent.0 (gone_at sent.1 stop))
 
+-- a request's outcome comes from the server that it was sent to
+abbrev pub reply_to : ClientAsk → Outcome → ClientAnswer
+reply_to (asks.Send server request) outcome = answers.Replied server outcome
+reply_to ask outcome = answers.Next
+
+abbrev pub receipts_in : ClientAsk → List Receipt
+receipts_in (asks.CallEnd receipts op_ends) = receipts
+receipts_in ask = []
+
 -- and the client once it is answered
 abbrev pub replied : Outcome → ClientView × ClientAsk → ClientView × ClientAsk
 replied outcome sent = client_step sent.0 (reply_to sent.1 outcome)
@@ -43,3 +52,16 @@ abbrev pub receipts_along : ClientView → List Course → List Receipt
 receipts_along c [] = []
 receipts_along c (course ∷ courses) =
     receipts_in (after_course c course).1 ++ receipts_along (after_course c course).0 courses
+
+-- a client that went on from where it was at rest: it rests there still, or its next request is under way, sent
+-- again once for each of these stops
+abbrev pub IsFrom : ClientView → ClientView → Option Request → Type 0
+IsFrom rest c None = c ≡ rest
+IsFrom rest c (Some request) =
+    (stops : List ℕ) × (sent_again stops (client_step rest answers.Next) ≡ (c, asks.Send c.server request))
+
+-- one receipt an operation, from this operation on and up to that one, with its number
+abbrev pub AreNumbered : ℕ → List Receipt → ℕ → Type 0
+AreNumbered op [] last = last ≡ op
+AreNumbered op (receipt ∷ receipts) last =
+    (receipt.op ≡ op) × (receipt.number ≡ Some (op + 1)) × AreNumbered (op + 1) receipts last

@@ -4,6 +4,5 @@ pub mod Courses
 pub mod Moved
 pub mod Ops
 pub mod Plans
-pub mod Replay
 pub mod Scripts
 pub mod Single

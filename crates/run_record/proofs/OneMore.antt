@@ -1,18 +1,12 @@
 -- Conflicts and receipts, with one more.
-use Rattle.std.proofs.Common.{◌≡◌, ℕ, zero, suc, ◌≤◌, ◌+◌, List, [], ◌∷◌, ◌++◌, Some, None, length, take, ap, refl, subst, arith}
-use Rattle.std.specs.Prelude.{slice_get}
-use Rattle.std.proofs.lemmas.Option.{same_Some}
+use Rattle.std.proofs.Common.{◌≡◌, ℕ, ◌≤◌, List, [], ◌∷◌, ◌++◌, refl, arith}
 use Rattle.fs_base.specs.Config.{Settings}
 use Rattle.fs_base.specs.declared.call.Request.{Request}
 use Rattle.fs_base.specs.declared.ids.ClientId.{ClientId}
 use Rattle.key_schema.specs.declared.key.Key.{Key}
 use Rattle.txn_task.specs.declared.messages.Entry.{Entry}
-use Rattle.client_core.specs.Single.{single_request}
-use Rattle.client_core.specs.declared.plan.Op.{Op}
-use Rattle.client_core.specs.declared.plan.Script.{Script}
-use Rattle.run_record.specs.Follow.{Follow}
 use Rattle.run_record.specs.Outcomes.{last_version, version_before}
-use Rattle.run_record.specs.Receipts.{AreConflicts, AreLater, AreReceipts, IsConflict, IsOf, IsReceipt, MayMeet, MayMeetAll, NamesLater}
+use Rattle.run_record.specs.Receipts.{AreConflicts, AreLater, AreReceipts, IsConflict, IsReceipt, MayMeet, MayMeetAll, NamesLater}
 use Rattle.run_record.specs.declared.run.Listed.{Listed}
 
 -- ---- conflicts
@@ -47,27 +41,3 @@ last_version_low floor (q ∷ pairs) = omega arith
 pub AreReceipts-push : (C : Settings) (attempts : ℕ) (es : List Entry) (client : ClientId) (rs : List Listed) (r : Listed) → AreReceipts C attempts es client rs → IsReceipt C attempts es client r → AreReceipts C attempts es client (rs ++ r ∷ [])
 AreReceipts-push C attempts es client [] r h n = (n, tt)
 AreReceipts-push C attempts es client (x ∷ rs) r h n = (h.0, AreReceipts-push C attempts es client rs r h.1 n)
-
--- the receipt is that of the operation with this ordinal
-abbrev pub IsNext : ℕ → Script → ℕ → Op → Listed → Type 0
-IsNext k script op step r = (r.client ≡ k) × (r.receipt.op ≡ op) × IsOf (single_request script op step) r.receipt × (r.receipt.gone ≡ [])
-
-pub Follow-push : (k : ℕ) (script : Script) (from : ℕ) (steps : List Op) (step : Op) (rs : List Listed) (r : Listed) → Follow k script from steps rs → IsNext k script (from + length steps) step r → Follow k script from (steps ++ step ∷ []) (rs ++ r ∷ [])
-Follow-push k script from [] step [] r f n =
-    let same : from + 0 ≡ from = omega arith in
-    let next : IsNext k script from step r = subst (λ op. IsNext k script op step r) same n in
-    (next.0, next.1, next.2, next.3, tt)
-Follow-push k script from [] step (x ∷ rs) r f n = absurd f
-Follow-push k script from (first ∷ steps) step [] r f n = absurd f
-Follow-push k script from (first ∷ steps) step (x ∷ rs) r (client, op_is, of, gone, rest) n =
-    let same : from + length (first ∷ steps) ≡ (from + 1) + length steps = omega arith in
-    (client, op_is, of, gone, Follow-push k script (from + 1) steps step rs r rest (subst (λ op. IsNext k script op step r) same n))
-
--- one operation more
-pub take_more : (steps : List Op) (n : ℕ) (step : Op) → slice_get steps n ≡ Some step → (take (suc n) steps ≡ take n steps ++ step ∷ []) × (n ≡ 0 + length (take n steps))
-take_more [] n step at = absurd (let k : None ≡ Some step = at in cc)
-take_more (x ∷ steps) zero step at = (ap (λ (y : Op). y ∷ []) (same_Some x step at), refl)
-take_more (x ∷ steps) (suc n) step at =
-    let rest : (take (suc n) steps ≡ take n steps ++ step ∷ []) × (n ≡ 0 + length (take n steps)) = take_more steps n step at in
-    let count : n ≡ 0 + length (take n steps) = rest.1 in
-    (ap (λ (ys : List Op). x ∷ ys) rest.0, omega arith)

@@ -11,7 +11,7 @@ use Rattle.txn_task.specs.declared.messages.Entry.{Entry}
 use Rattle.txn_task.specs.declared.outcome.Outcome.{Outcome}
 use Rattle.txn_task.specs.declared.outcome.Receipt.{Receipt}
 use Rattle.client_core.specs.Client.{has_ended, new_client}
-use Rattle.client_core.specs.Replay.{receipts_told, replayed}
+use Rattle.client_core.specs.Courses.{Course, after_courses, receipts_along}
 use Rattle.client_core.specs.declared.plan.Script.{Script}
 use Rattle.run_record.specs.Legal.{EntryAt, tree_at}
 use Rattle.run_record.specs.ReplyText.{text_of}
@@ -161,9 +161,11 @@ Rises floor (listed ∷ rest) =
 -- script's end
 pub record IsSection (C : Settings) (attempts : ℕ) (journal : List Entry) (k : ℕ) (script : Script)
     (own : List Listed) : Type 0 where
-  pub outcomes : List Outcome
-  pub told : map (λ listed. listed.receipt) own ≡ receipts_told (new_client C script) outcomes
-  pub ended : has_ended (replayed (new_client C script) outcomes) ≡ true
+  pub courses : List Course
+  pub told : map (λ listed. listed.receipt) own ≡ receipts_along (new_client C script) courses
+  pub ended : has_ended (after_courses (new_client C script) courses) ≡ true
+  -- no server stops yet
+  pub none_gone : All (λ listed. listed.receipt.gone ≡ []) own
   pub ordinals : All (λ listed. listed.client ≡ k) own
   pub each : AreReceipts C attempts journal script.id own
   pub rises : Rises 0 own

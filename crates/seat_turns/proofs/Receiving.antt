@@ -1,25 +1,30 @@
 -- A client keeps a receipt of what its request came to.
-use Rattle.std.proofs.Common.{◌≡◌, ℕ, zero, suc, ◌≤◌, ◌<◌, ◌+◌, inl, inr, List, [], ◌∷◌, ◌++◌, Some, true, length, take, sym, ◌∙◌, ap, refl, subst, arith, add-one}
+use Rattle.std.proofs.Common.{◌≡◌, ℕ, ◌≤◌, ◌<◌, ◌+◌, inl, inr, List, [], ◌∷◌, ◌++◌, Some, true, length, map, sym, ◌∙◌, ap, refl, subst, arith}
 use Rattle.std.specs.Prelude.{slice_get}
 use Rattle.std.proofs.lemmas.Bool.{cases_lt}
+use Rattle.std.proofs.lemmas.List.{map_push}
+use Rattle.std.proofs.lemmas.List.Elements.{All-push}
 use Rattle.std.proofs.lemmas.Option.{same_Some}
 use Rattle.fs_base.specs.Config.{Settings}
 use Rattle.fs_base.specs.declared.call.Request.{Request}
 use Rattle.fs_base.specs.declared.ids.ClientId.{ClientId}
 use Rattle.txn_task.specs.declared.messages.Entry.{Entry}
 use Rattle.txn_task.specs.declared.outcome.Outcome.{Outcome}
-use Rattle.client_core.specs.Ops.{call_of}
-use Rattle.client_core.specs.Single.{single_receipt, single_request}
-use Rattle.client_core.specs.declared.plan.Op.{Op}
-use Rattle.client_core.specs.declared.plan.Script.{Script}
+use Rattle.txn_task.specs.declared.outcome.Receipt.{Receipt}
+use Rattle.client_core.specs.Client.{ClientView, end_call, new_client}
+use Rattle.client_core.specs.Courses.{AreNumbered, Course, IsFrom, after_course, after_courses, receipts_along, receipts_in}
+use Rattle.client_core.specs.Ops.{receipt_of}
+use Rattle.client_core.specs.Plans.{IsScript}
+use Rattle.client_core.specs.declared.messages.ClientAsk.{ClientAsk}
+use Rattle.client_core.proofs.Courses.{after_push, along_push, course_ends, numbered, rests_at, same_op}
 use Rattle.run_record.specs.Legal.{EntryAt}
 use Rattle.run_record.specs.Outcomes.{seen_by, NamesEntry}
-use Rattle.run_record.specs.Follow.{Follow}
-use Rattle.run_record.specs.Receipts.{fronts_of, front_of, outcome_of, AreReceipts, IsMadeBy, IsReceipt, IsServed, MayMeetAll, Rises}
+use Rattle.run_record.specs.Receipts.{fronts_of, front_of, outcome_of, AreLater, AreReceipts, IsMadeBy, IsOf, IsReceipt, IsServed}
+use Rattle.run_record.specs.Receipts.{MayMeetAll, Rises}
 use Rattle.run_record.specs.ReplyText.{text_of}
 use Rattle.run_record.specs.declared.run.Listed.{Listed}
 use Rattle.run_record.proofs.Naming.{of_commit}
-use Rattle.run_record.proofs.OneMore.{AreReceipts-push, Follow-push, IsNext, take_more}
+use Rattle.run_record.proofs.OneMore.{AreReceipts-push}
 use Rattle.run_record.proofs.Served.{one_request, served}
 use Rattle.request_run.specs.Served.{CameTo, EachOf}
 use Rattle.seat_turns.specs.Kept.{AreNamed, HasReceipt, IsPast, version_after}
@@ -44,62 +49,87 @@ version_after-push floor (x ∷ rs) r = version_after-push (seen_by (outcome_of 
 
 -- ---- what a request came to
 
-module _ (C : Settings) (attempts : ℕ) (journal : List Entry) (k : ℕ) (script : Script) (op : ℕ) (receipts : List Listed) (front : ℕ) (step : Op) (outcome : Outcome) (came : CameTo C attempts journal (single_request script op step) front outcome) where
+module _ (C : Settings) (attempts : ℕ) (journal : List Entry) (k : ℕ) (client : ClientView) (receipts : List Listed)
+    (front : ℕ) (request : Request) (outcome : Outcome) (is : client.request ≡ Some request)
+    (own : request.client ≡ client.script.id) (server_is : request.server ≡ client.server)
+    (came : CameTo C attempts journal request front outcome) where
+  abbrev pub receipt : Receipt
+  receipt = receipt_of client.op request client.server client.gone outcome
+
   abbrev pub listed : Listed
-  listed = record { client = k; fronts = fronts_of C front; receipt = single_receipt script op step outcome; text = text_of (call_of step) outcome.reply }
+  listed = record { client = k; fronts = fronts_of C front; receipt = receipt; text = text_of request.call outcome.reply }
+
+  -- the client once it has learned so
+  abbrev pub after : ClientView
+  after = (end_call client client.server outcome (Some request)).0
+
+  is_of : IsOf request receipt
+  is_of = record { server = ap (λ (n : ℕ). Some n) (sym server_is); number = refl; stamp = refl; call = refl }
 
   -- the entry that it names was made where the request was sent
-  made_by : IsMadeBy journal (single_receipt script op step outcome)
-  made_by mark place e at version = inl (ap (λ (n : ℕ). Some n) (sym (came.made_at mark place e at version)))
+  made_by : IsMadeBy journal receipt
+  made_by mark place e at version = inl (ap (λ (n : ℕ). Some n) (sym server_is ∙ sym (came.made_at mark place e at version)))
 
-  receipt_is : IsReceipt C attempts journal script.id listed
+  receipt_is : IsReceipt C attempts journal client.script.id listed
   receipt_is = record {
     fronts = refl;
     text = refl;
     by_server = record {
       served = record {
-        request = single_request script op step;
-        client_is = refl;
-        is_of = record { server = refl; number = refl; stamp = refl; call = refl };
+        request = request;
+        client_is = own;
+        is_of = is_of;
         outcome = came.outcome_is;
         made_by = made_by;
         may = came.may;
-        conflicts = came.conflicts.0;
+        conflicts = subst (λ (id : ClientId). AreLater journal id front outcome.conflicts) own came.conflicts.0;
       };
       met = came.met;
       inside = λ other mine of.
           subst (λ (q : Request). MayMeetAll C journal q front outcome.conflicts)
-          (sym (one_request other (single_request script op step) (single_receipt script op step outcome) mine of (record { server = refl; number = refl; stamp = refl; call = refl })))
+          (sym (one_request other request receipt (mine ∙ sym own) of is_of))
           came.conflicts.1;
     };
   }
 
   -- its receipt joins those before it
-  pub past_more : IsPast C attempts journal k script op receipts → slice_get script.ops op ≡ Some step → version_after 0 receipts ≤ front → IsPast C attempts journal k script (op + 1) (receipts ++ listed ∷ [])
-  past_more past there from =
-      let more : (take (suc op) script.ops ≡ take op script.ops ++ step ∷ []) × (op ≡ 0 + length (take op script.ops)) = take_more script.ops op step there in
+  pub past_more : IsPast C attempts journal k client receipts → client.gone ≡ [] → version_after 0 receipts ≤ front
+      → IsPast C attempts journal k after (receipts ++ listed ∷ [])
+  past_more past none from =
+      let new : ClientView = new_client C client.script in
+      let rest : ClientView = after_courses new past.courses in
+      let going : IsFrom rest client (Some request) = subst (IsFrom rest client) is past.from in
+      let one : Course = record { stops = going.0; outcome = outcome } in
+      let ends : after_course rest one ≡ end_call client client.server outcome (Some request)
+      = course_ends rest client request going.0 outcome going.1 ∙ ap (end_call client client.server outcome) is in
       record {
-        follow = subst (λ (ops : List Op). Follow k script 0 ops (receipts ++ listed ∷ [])) (sym more.0 ∙ ap (λ n. take n script.ops) (sym (add-one op)))
-            (Follow-push k script 0 (take op script.ops) step receipts listed past.follow
-            (subst (λ n. IsNext k script n step listed) more.1 (refl, refl, record { server = refl; number = refl; stamp = refl; call = refl }, refl)));
-        each = AreReceipts-push C attempts journal script.id receipts listed past.each receipt_is;
+        courses = past.courses ++ one ∷ [];
+        told = map_push (λ (l : Listed). l.receipt) receipts listed
+            ∙ (ap (λ (rs : List Receipt). rs ++ receipt ∷ []) past.told
+            ∙ (ap (λ (p : ClientView × ClientAsk). receipts_along new past.courses ++ receipts_in p.1) (sym ends)
+            ∙ sym (along_push new past.courses one)));
+        from = sym (after_push new past.courses one ∙ ap (λ (p : ClientView × ClientAsk). p.0) ends);
+        none_gone = All-push (λ (l : Listed). l.receipt.gone ≡ []) receipts listed past.none_gone none;
+        ordinals = All-push (λ (l : Listed). l.client ≡ k) receipts listed past.ordinals refl;
+        each = AreReceipts-push C attempts journal client.script.id receipts listed past.each receipt_is;
         rises = Rises-push 0 receipts listed past.rises from came.above;
         within = subst (λ n. n ≤ length journal) (sym (version_after-push 0 receipts listed)) came.within;
       }
 
   -- and names the entry that the client has made since the front
-  pub named_more : EachOf journal script.id (λ place e. place < front → HasReceipt receipts place) → AreNamed journal script.id (receipts ++ listed ∷ [])
+  pub named_more : EachOf journal client.script.id (λ place e. place < front → HasReceipt receipts place)
+      → AreNamed journal client.script.id (receipts ++ listed ∷ [])
   named_more named place e at mine = elim (cases_lt place front) [
     | inl before ↦ HasReceipt-push receipts listed place (named place e at mine before)
-    | inr since ↦ HasReceipt_new receipts listed place (came.only place e at mine since)
+    | inr since ↦ HasReceipt_new receipts listed place (came.only place e at (mine ∙ sym own) since)
   ]
 
 -- ---- numbers that are done
 
-take_short : (n : ℕ) (steps : List Op) → length (take n steps) ≤ n
-take_short zero steps = omega arith
-take_short (suc n) [] = omega arith
-take_short (suc n) (x ∷ steps) = let l : length (take n steps) ≤ n = take_short n steps in omega arith
+-- numbers rise
+numbered_up : (op last : ℕ) (rs : List Receipt) → AreNumbered op rs last → op ≤ last
+numbered_up op last [] h = omega (arith, h)
+numbered_up op last (r ∷ rs) h = omega (arith, numbered_up (op + 1) last rs h.2)
 
 module _ (C : Settings) (attempts : ℕ) (es : List Entry) (place : ℕ) (e : Entry) (at : EntryAt es place e) where
   -- a receipt that names the entry has its number, and is its client's
@@ -113,15 +143,22 @@ module _ (C : Settings) (attempts : ℕ) (es : List Entry) (place : ℕ) (e : En
         h.is_of.number ∙ ap (λ (n : ℕ). Some n) (sym names.number ∙ ap (λ (x : Entry). x.request.number) one),
       )
 
-  follow_number : (k : ℕ) (script : Script) (op : ℕ) (steps : List Op) (rs : List Listed) → Follow k script op steps rs → AreReceipts C attempts es script.id rs → HasReceipt rs place → e.request.number ≤ op + length steps
-  follow_number k script op [] [] f a has = absurd has
-  follow_number k script op [] (r ∷ rs) f a has = absurd f
-  follow_number k script op (step ∷ steps) [] f a has = absurd has
-  follow_number k script op (step ∷ steps) (r ∷ rs) (client, op_is, is_of, gone, rest) a has = elim has [
-    | inl here ↦ (let n : e.request.number ≡ op + 1 = same_Some e.request.number (op + 1) (sym (names_is script.id r a.0 here).1 ∙ is_of.number) in omega arith)
-    | inr later ↦ (let n : e.request.number ≤ (op + 1) + length steps = follow_number k script (op + 1) steps rs rest a.1 later in omega arith)
+  named_number : (client : ClientId) (op last : ℕ) (rs : List Listed) → AreNumbered op (map (λ (l : Listed). l.receipt) rs) last
+      → AreReceipts C attempts es client rs → HasReceipt rs place → e.request.number ≤ last
+  named_number client op last [] numbers all has = absurd has
+  named_number client op last (r ∷ rs) (op_is, number, later) all has = elim has [
+    | inl here ↦
+        (let n : e.request.number ≡ op + 1 = same_Some e.request.number (op + 1) (sym (names_is client r all.0 here).1 ∙ number) in
+        omega (arith, numbered_up (op + 1) last (map (λ (l : Listed). l.receipt) rs) later))
+    | inr later_has ↦ named_number client (op + 1) last rs later all.1 later_has
   ]
 
   -- an entry that has a receipt has a number that is done
-  pub past_number : (k : ℕ) (script : Script) (op : ℕ) (rs : List Listed) → IsPast C attempts es k script op rs → HasReceipt rs place → e.request.number ≤ op
-  past_number k script op rs past has = omega (arith, follow_number k script 0 (take op script.ops) rs past.follow past.each has, take_short op script.ops)
+  pub past_number : (k : ℕ) (client : ClientView) (rs : List Listed) → IsScript C.servers client.script
+      → IsPast C attempts es k client rs → HasReceipt rs place → e.request.number ≤ client.op
+  past_number k client rs valid past has =
+      let rest : ClientView = after_courses (new_client C client.script) past.courses in
+      let numbers : AreNumbered 0 (map (λ (l : Listed). l.receipt) rs) rest.op
+      = subst (λ (told : List Receipt). AreNumbered 0 told rest.op) (sym past.told) (numbered C client.script past.courses) in
+      let here : client.op ≡ rest.op = same_op C client.script rest client client.request (rests_at C client.script past.courses valid) past.from in
+      omega (arith, named_number client.script.id 0 rest.op rs numbers past.each has)

@@ -4,7 +4,7 @@ use Rattle.std.specs.Prelude.{slice_get}
 use Rattle.std.proofs.Math.Seq.{map-set_same}
 use Rattle.std.proofs.lemmas.Bool.{cases_eq}
 use Rattle.std.proofs.lemmas.List.{get_or-set_same, length-set}
-use Rattle.std.proofs.lemmas.List.Elements.{All-head, All-tail}
+use Rattle.std.proofs.lemmas.List.Elements.{All-head, All-nil, All-tail}
 use Rattle.std.proofs.lemmas.Option.{slice_get-get_or, slice_get-map, same_Some}
 use Rattle.fs_base.specs.Config.{Settings}
 use Rattle.kv_store.specs.Store.{Store}
@@ -14,6 +14,7 @@ use Rattle.client_core.specs.Client.{new_client}
 use Rattle.client_core.specs.Plans.{AreDistinct, IsScript}
 use Rattle.client_core.specs.declared.plan.Script.{Script}
 use Rattle.run_record.specs.Legal.{EntryAt}
+use Rattle.run_record.specs.declared.run.Listed.{Listed}
 use Rattle.request_run.specs.Served.{AreCovered, AreOthers}
 use Rattle.request_run.specs.Entries.{IsGrowth, entries_of}
 use Rattle.run_record.proofs.Growing.{at_either}
@@ -22,7 +23,6 @@ use Rattle.seat_turns.specs.Kept.{IsSeat}
 use Rattle.seat_turns.specs.Left.{GoesOn, IsOneMore, KeepsOthers}
 use Rattle.seat_turns.specs.Seats.{AllSeats, AreSeated, scripts_of, seats_of}
 use Rattle.seat_turns.specs.declared.seats.Seat.{Seat}
-use Rattle.client_core.proofs.Single.{single_new}
 use Rattle.seat_turns.proofs.Working.{IsLonger, longer, seat_longer}
 
 -- ---- places
@@ -130,7 +130,22 @@ scripts_new C (script ∷ scripts) = ap (λ (ss : List Script). script ∷ ss) (
 
 seat_new : (C : Settings) (attempts k : ℕ) (script : Script) → IsScript C.servers script → IsSeat C attempts [] k (record { client = new_client C script; work = None; receipts = [] })
 seat_new C attempts k script h =
-    record { config = refl; script = h; client = single_new C script h; past = record { follow = tt; each = tt; rises = tt; within = omega arith }; working = λ place e at mine. absurd (let none : None ≡ Some e = at in cc) }
+    record {
+      config = refl;
+      script = h;
+      none_gone = refl;
+      past = record {
+        courses = [];
+        told = refl;
+        from = refl;
+        none_gone = All-nil (λ (l : Listed). l.receipt.gone ≡ []);
+        ordinals = All-nil (λ (l : Listed). l.client ≡ k);
+        each = tt;
+        rises = tt;
+        within = omega arith;
+      };
+      working = λ place e at mine. absurd (let none : None ≡ Some e = at in cc);
+    }
 
 all_new : (C : Settings) (attempts base : ℕ) (scripts : List Script) → All (IsScript C.servers) scripts → (k : ℕ) (seat : Seat) → slice_get (seats_of C scripts) k ≡ Some seat → IsSeat C attempts [] (base + k) seat
 all_new C attempts base [] valid k seat at = absurd (let none : None ≡ Some seat = at in cc)

@@ -1,6 +1,6 @@
 -- A client's request, from the turn that sends it to the turn that learns what it came to.
 use Rattle.std.proofs.Common.{◌≡◌, ℕ, zero, suc, ◌<◌, ◌≤◌, ◌+◌, ◌^◌, ◌⊎◌, inl, inr, List, [], ◌∷◌, ◌++◌, Option, Some, None, Bool, true, false, length, length-append, append-nil, refl, sym, ap, subst, ◌∙◌, arith}
-use Rattle.std.specs.Prelude.{slice_get, is_some}
+use Rattle.std.specs.Prelude.{IfSome, slice_get, is_some}
 use Rattle.std.proofs.lemmas.Option.{same_Some, slice_get_within}
 use Rattle.fs_base.specs.Config.{Settings}
 use Rattle.fs_base.specs.declared.call.Request.{Request}
@@ -13,13 +13,14 @@ use Rattle.txn_task.specs.declared.messages.Ask.TheVariants as asks
 use Rattle.txn_task.specs.declared.messages.Entry.{Entry}
 use Rattle.txn_task.specs.declared.outcome.Outcome.{Outcome}
 use Rattle.txn_task.specs.declared.outcome.Receipt.{Receipt}
-use Rattle.client_core.specs.Client.{ClientView, next_request, send, end_call}
+use Rattle.client_core.specs.Client.{ClientView, client_step, end_call, new_client, next_request, send}
+use Rattle.client_core.specs.Courses.{IsFrom, after_courses}
 use Rattle.client_core.specs.Ops.{receipt_of}
-use Rattle.client_core.specs.Single.{IsAt, IsClient, single_receipt, single_request}
+use Rattle.client_core.specs.declared.messages.ClientAnswer.TheVariants as answers
 use Rattle.client_core.specs.declared.messages.ClientAsk.TheVariants as client_asks
 use Rattle.client_core.specs.declared.plan.Op.{Op}
-use Rattle.client_core.specs.declared.plan.Script.{Script}
-use Rattle.client_core.proofs.Single.{single_end, single_next, single_send}
+use Rattle.client_core.proofs.Courses.{IsOnWay, on_way, rests_at}
+use Rattle.client_core.proofs.Replayed.{IsIdleAt, client_at}
 use Rattle.histories.proofs.Lists.{at_within}
 use Rattle.run_record.specs.Legal.{EntryAt}
 use Rattle.run_record.specs.Receipts.{fronts_of}
@@ -38,6 +39,40 @@ use Rattle.seat_turns.specs.Ready.{is_done}
 use Rattle.seat_turns.specs.declared.seats.Seat.{Seat}
 use Rattle.seat_turns.specs.declared.seats.Work.{Work}
 use Rattle.seat_turns.proofs.Receiving.{listed, named_more, past_more, past_number}
+
+-- ---- a request under way
+
+module _ (C : Settings) (attempts : ℕ) (journal : List Entry) (k : ℕ) (seat : Seat) (h : IsSeat C attempts journal k seat) where
+  abbrev rest : ClientView
+  rest = after_courses (new_client C seat.client.script) h.past.courses
+
+  abbrev rests : IsIdleAt C seat.client.script rest
+  rests = rests_at C seat.client.script h.past.courses h.script
+
+  way : (request : Request) → seat.client.request ≡ Some request → IsOnWay C seat.client.script rests.op seat.client request
+  way request is = on_way C seat.client.script rest seat.client request rests (subst (IsFrom rest seat.client) is h.past.from)
+
+  -- it is its client's
+  pub sent_own : (request : Request) → seat.client.request ≡ Some request → request.client ≡ seat.client.script.id
+  sent_own request is = ap (λ (q : Request). q.client) (way request is).request_is
+
+  -- and was sent to the present server
+  pub sent_where : (request : Request) → seat.client.request ≡ Some request → request.server ≡ seat.client.server
+  sent_where request is =
+      ap (λ (q : Request). q.server) (way request is).request_is ∙ sym (ap (λ (c : ClientView). c.server) (way request is).is)
+
+  -- its operation is there
+  pub sent_step : (request : Request) → seat.client.request ≡ Some request → seat.client.op < length seat.client.script.ops
+  sent_step request is =
+      let on : IsOnWay C seat.client.script rests.op seat.client request = way request is in
+      let here : seat.client.op ≡ rests.op = ap (λ (c : ClientView). c.op) on.is in
+      omega (arith, slice_get_within seat.client.script.ops rests.op on.step on.there)
+
+  -- where none is, the next number is that of the next operation
+  pub next_number : seat.client.request ≡ None → seat.client.number ≡ seat.client.op
+  next_number none =
+      let is : seat.client ≡ client_at C seat.client.script rests.server rests.op = subst (IsFrom rest seat.client) none h.past.from ∙ rests.is in
+      ap (λ (c : ClientView). c.number) is ∙ sym (ap (λ (c : ClientView). c.op) is)
 
 -- ---- the journal grows
 
@@ -66,10 +101,19 @@ longer store after client (inr grew) =
     only (suc place) e at = absurd (let f : None ≡ Some e = at in cc)
 
 module _ (C : Settings) (attempts : ℕ) (es more : List Entry) (short : length (es ++ more) ≤ 200000) where
-  past_longer : (k : ℕ) (script : Script) (done : ℕ) (receipts : List Listed) → IsPast C attempts es k script done receipts → IsPast C attempts (es ++ more) k script done receipts
-  past_longer k script done receipts h =
+  past_longer : (k : ℕ) (client : ClientView) (receipts : List Listed) → IsPast C attempts es k client receipts → IsPast C attempts (es ++ more) k client receipts
+  past_longer k client receipts h =
       let within : version_after 0 receipts ≤ length (es ++ more) = omega (arith, h.within, length-append es more) in
-      assumption (AreReceipts-longer C es more short attempts script.id receipts h.each)
+      record {
+        courses = h.courses;
+        told = h.told;
+        from = h.from;
+        none_gone = h.none_gone;
+        ordinals = h.ordinals;
+        each = AreReceipts-longer C es more short attempts client.script.id receipts h.each;
+        rises = h.rises;
+        within = within;
+      }
 
   -- an entry behind a front isn't before it
   named_longer : (client : ClientId) (front : ℕ) (receipts : List Listed) → front ≤ length es → EachOf es client (λ place e. place < front → HasReceipt receipts place) → EachOf (es ++ more) client (λ place e. place < front → HasReceipt receipts place)
@@ -77,23 +121,37 @@ module _ (C : Settings) (attempts : ℕ) (es more : List Entry) (short : length 
 
   -- ---- a seat, where the new entries are other clients'
 
-  working_longer : (script : Script) (op : ℕ) (receipts : List Listed) (under_way : Option Request) (work : Option Work) → AreOthers more script.id → IsWorking C attempts es script op receipts under_way work → IsWorking C attempts (es ++ more) script op receipts under_way work
-  working_longer script op receipts None None others h = EachOf-longer C es more script.id (λ place e. HasReceipt receipts place) (λ behind e at mine. absurd (others behind e at mine)) h
-  working_longer script op receipts (Some request) (Some work) others h =
-      search (
-        h.there,
-        named_longer script.id work.front receipts h.served.met.front_in h.named,
-        IsServed-longer C es more attempts (single_request script op h.step) work.front work.task others h.served,
-      )
-  working_longer script op receipts None (Some work) others h = absurd h
-  working_longer script op receipts (Some request) None others h = absurd h
+  working_longer : (client : ClientView) (receipts : List Listed) (under_way : Option Request) (work : Option Work)
+      → IfSome under_way (λ request. request.client ≡ client.script.id) → AreOthers more client.script.id
+      → IsWorking C attempts es client receipts under_way work → IsWorking C attempts (es ++ more) client receipts under_way work
+  working_longer client receipts None None own others h =
+      EachOf-longer C es more client.script.id (λ place e. HasReceipt receipts place) (λ behind e at mine. absurd (others behind e at mine)) h
+  working_longer client receipts (Some request) (Some work) own others h =
+      record {
+        from = h.from;
+        named = named_longer client.script.id work.front receipts h.served.met.front_in h.named;
+        served = IsServed-longer C es more attempts request work.front work.task
+            (λ behind e at mine. others behind e at (mine ∙ own)) h.served;
+        pending = h.pending;
+        server = h.server;
+      }
+  working_longer client receipts None (Some work) own others h = absurd h
+  working_longer client receipts (Some request) None own others h = absurd h
 
   pub seat_longer : (k : ℕ) (seat : Seat) → AreOthers more seat.client.script.id → IsSeat C attempts es k seat → IsSeat C attempts (es ++ more) k seat
   seat_longer k seat others h =
-      assumption (
-        past_longer k seat.client.script seat.client.op seat.receipts h.past,
-        working_longer seat.client.script seat.client.op seat.receipts seat.client.request seat.work others h.working,
-      )
+      record {
+        config = h.config;
+        script = h.script;
+        none_gone = h.none_gone;
+        past = past_longer k seat.client seat.receipts h.past;
+        working = working_longer seat.client seat.receipts seat.client.request seat.work
+            (each_own seat.client.request refl) others h.working;
+      }
+    where
+      each_own : (o : Option Request) → seat.client.request ≡ o → IfSome o (λ request. request.client ≡ seat.client.script.id)
+      each_own None is = tt
+      each_own (Some request) is = sent_own C attempts es k seat h request is
 
 -- ---- what a seat works on
 
@@ -102,12 +160,12 @@ module _ (C : Settings) (attempts : ℕ) (journal : List Entry) (k : ℕ) (seat 
   Rests = (seat.client.request ≡ None) × AreNamed journal seat.client.script.id seat.receipts
 
   abbrev pub Works : Work → Type 0
-  Works work = ((request : Request) × (seat.client.request ≡ Some request)) × IsWork C attempts journal seat.client.script seat.client.op seat.receipts work
+  Works work = (sent : (request : Request) × (seat.client.request ≡ Some request)) × IsWork C attempts journal seat.client seat.receipts sent.0 work
 
   pub either : ((seat.work ≡ None) × Rests) ⊎ ((work : Work) × (seat.work ≡ Some work) × Works work)
   either = by_parts seat.client.request seat.work refl refl h.working
     where
-      by_parts : (b : Option Request) (o : Option Work) → seat.client.request ≡ b → seat.work ≡ o → IsWorking C attempts journal seat.client.script seat.client.op seat.receipts b o → ((seat.work ≡ None) × Rests) ⊎ ((work : Work) × (seat.work ≡ Some work) × Works work)
+      by_parts : (b : Option Request) (o : Option Work) → seat.client.request ≡ b → seat.work ≡ o → IsWorking C attempts journal seat.client seat.receipts b o → ((seat.work ≡ None) × Rests) ⊎ ((work : Work) × (seat.work ≡ Some work) × Works work)
       by_parts None None sent is w = inl (is, (sent, w))
       by_parts (Some request) (Some work) sent is w = inr (work, is, ((request, sent), w))
       by_parts None (Some work) sent is w = absurd w
@@ -135,7 +193,7 @@ module _ (C : Settings) (attempts : ℕ) (journal : List Entry) (k : ℕ) (seat 
   pub all_done : length seat.client.script.ops ≤ seat.client.op → seat.client.request ≡ None
   all_done all = elim either [
     | inl rests ↦ rests.1.0
-    | inr works ↦ absurd (omega (arith, slice_get_within seat.client.script.ops seat.client.op works.2.1.step works.2.1.there))
+    | inr works ↦ absurd (omega (arith, sent_step C attempts journal k seat h works.2.0.0 works.2.0.1))
   ]
 
 -- ---- a request begins
@@ -144,8 +202,8 @@ module _ (C : Settings) (attempts : ℕ) (journal : List Entry) (k : ℕ) (seat 
   pub record IsSent : Type 0 where
     pub step : Op
     pub there : slice_get seat.client.script.ops seat.client.op ≡ Some step
-    pub home : server ≡ seat.client.script.home
-    pub request_is : request ≡ single_request seat.client.script seat.client.op step
+    pub server_is : server ≡ seat.client.server
+    pub request_is : request ≡ next_request seat.client step
 
   -- what is sent is the next operation's request
   sent : IsSent
@@ -153,13 +211,7 @@ module _ (C : Settings) (attempts : ℕ) (journal : List Entry) (k : ℕ) (seat 
     where
       of_next : (o : Option Op) → slice_get seat.client.script.ops seat.client.op ≡ o → client_asks.Send server request ≡ (send seat.client o).1 → IsSent
       of_next None there e = absurd (cc)
-      of_next (Some step) there e =
-          record {
-            step = step;
-            there = there;
-            home = (let a : server ≡ seat.client.server = cc in a ∙ h.client.at_home);
-            request_is = (let b : request ≡ next_request seat.client step = cc in b ∙ single_next seat.client step h.client idle);
-          }
+      of_next (Some step) there e = record { step = step; there = there; server_is = cc; request_is = cc }
 
   pub sent_small : request.client.0 < 2 ^ 128
   sent_small = subst (λ (q : Request). q.client.0 < 2 ^ 128) (sym sent.request_is) h.script.small
@@ -167,8 +219,30 @@ module _ (C : Settings) (attempts : ℕ) (journal : List Entry) (k : ℕ) (seat 
   -- its number is new
   pub sent_later : AreNamed journal seat.client.script.id seat.receipts → AreEarlier journal request
   sent_later named =
+      let number : seat.client.number ≡ seat.client.op = next_number C attempts journal k seat h idle in
       subst (AreEarlier journal) (sym sent.request_is)
-      (λ place e at mine. omega (arith, past_number C attempts journal place e at k seat.client.script seat.client.op seat.receipts h.past (named place e at mine)))
+      (λ place e at mine. omega (arith, past_number C attempts journal place e at k seat.client seat.receipts h.script h.past (named place e at mine)))
+
+  -- the client once it has sent it
+  abbrev after_sending : ClientView
+  after_sending = (send seat.client (Some sent.step)).0
+
+  past_sent : IsPast C attempts journal k after_sending seat.receipts
+  past_sent =
+      let rest : ClientView = after_courses (new_client C seat.client.script) h.past.courses in
+      let at_rest : seat.client ≡ rest = subst (IsFrom rest seat.client) idle h.past.from in
+      let sends : client_step rest answers.Next ≡ send seat.client (Some sent.step)
+      = ap (λ (c : ClientView). send c (slice_get c.script.ops c.op)) (sym at_rest) ∙ ap (send seat.client) sent.there in
+      record {
+        courses = h.past.courses;
+        told = h.past.told;
+        from = ([], sends);
+        none_gone = h.past.none_gone;
+        ordinals = h.past.ordinals;
+        each = h.past.each;
+        rises = h.past.rises;
+        within = h.past.within;
+      }
 
   pub seat_sent : (after : Seat) (work : Work) → AreNamed journal seat.client.script.id seat.receipts → work.ask ≡ asks.Begin → IsReady C attempts journal request work.front work.task work.ask → work.server ≡ server → work.front ≡ length journal
       → after ≡ record seat { client = (send seat.client (slice_get seat.client.script.ops seat.client.op)).0; work = Some work } → IsSeat C attempts journal k after
@@ -178,16 +252,14 @@ module _ (C : Settings) (attempts : ℕ) (journal : List Entry) (k : ℕ) (seat 
       (record {
         config = h.config;
         script = h.script;
-        client = single_send seat.client (Some sent.step) (sym sent.there) h.client idle;
-        past = h.past;
+        none_gone = h.none_gone;
+        past = past_sent;
         working = record {
-          step = sent.step;
-          there = sent.there;
           from = omega (arith, h.past.within);
           named = λ place e at mine l. named place e at mine;
           served = subst (λ q. IsServed C attempts journal q work.front work.task) sent.request_is going.0;
           pending = subst (IsPending C work.task) (sym ask) going.1;
-          server = served ∙ sent.home;
+          server = served ∙ sent.server_is;
         };
       })
 
@@ -208,73 +280,67 @@ has_outcome C attempts journal request front task ask h e = let came = ended C a
 kept_is : (c : ClientView) (server : ℕ) (outcome : Outcome) (request : Request) (receipt : Receipt) → client_asks.CallEnd (receipt ∷ []) true ≡ (end_call c server outcome (Some request)).1 → receipt ≡ receipt_of c.op request server c.gone outcome
 kept_is c server outcome request receipt e = cc
 
--- the request under way is the next operation's
-request_there : (c : ClientView) (request : Request) (step : Op) → IsClient c → c.request ≡ Some request → slice_get c.script.ops c.op ≡ Some step → request ≡ single_request c.script c.op step
-request_there c request step h is there =
-    let at : IsAt c (Some request) = subst (IsAt c) is h.place in
-    at.2 ∙ ap (single_request c.script c.op) (same_Some at.0 step (sym at.1 ∙ there))
-
 module _ (C : Settings) (attempts : ℕ) (es more : List Entry) (k : ℕ) (before after : Seat) (work : Work) (task : TaskView) (next : Ask) (short : length (es ++ more) ≤ 200000) (h : IsSeat C attempts es k before) (is : before.work ≡ Some work) where
-  abbrev of : ((request : Request) × (before.client.request ≡ Some request)) × IsWork C attempts es before.client.script before.client.op before.receipts work
+  abbrev of : Works C attempts es k before h work
   of = work_of C attempts es k before h work is
 
-  abbrev Ready : Type 0
-  Ready = IsReady C attempts (es ++ more) (single_request before.client.script before.client.op of.1.step) work.front task next
+  abbrev pub Ready : Type 0
+  Ready = IsReady C attempts (es ++ more) of.0.0 work.front task next
 
-  past : IsPast C attempts (es ++ more) k before.client.script before.client.op before.receipts
-  past = past_longer C attempts es more short k before.client.script before.client.op before.receipts h.past
+  past : IsPast C attempts (es ++ more) k before.client before.receipts
+  past = past_longer C attempts es more short k before.client before.receipts h.past
 
   named : EachOf (es ++ more) before.client.script.id (λ place e. place < work.front → HasReceipt before.receipts place)
   named = named_longer C attempts es more short before.client.script.id work.front before.receipts of.1.served.met.front_in of.1.named
 
   goes_on : Ready → is_done next ≡ false → after ≡ record before { work = Some (record work { task = task; ask = next }) } → IsSeat C attempts (es ++ more) k after
   goes_on ready on now =
-      let going = still C attempts (es ++ more) (single_request before.client.script before.client.op of.1.step) work.front task next on ready in
+      let going = still C attempts (es ++ more) of.0.0 work.front task next on ready in
       subst (IsSeat C attempts (es ++ more) k) (sym now)
-      (assumption (
-        past,
-        subst
-            (λ (o : Option Request). IsWorking C attempts (es ++ more) before.client.script before.client.op before.receipts o
+      (record {
+        config = h.config;
+        script = h.script;
+        none_gone = h.none_gone;
+        past = past;
+        working = subst
+            (λ (o : Option Request). IsWorking C attempts (es ++ more) before.client before.receipts o
             (Some (record work { task = task; ask = next })))
             (sym of.0.1)
             (record {
-              step = of.1.step;
-              there = of.1.there;
               from = of.1.from;
               named = named;
               served = going.0;
               pending = going.1;
               server = of.1.server;
-            }),
-      ))
+            });
+      })
 
   has_learned : Ready → is_done next ≡ true → HasLearned C k (record before { work = None }) after work.server work.front task → IsSeat C attempts (es ++ more) k after
   has_learned ready done learned =
-      let script : Script = before.client.script in
-      let op : ℕ = before.client.op in
-      let step : Op = of.1.step in
+      let c : ClientView = before.client in
       let request : Request = of.0.0 in
-      let request_is : request ≡ single_request script op step = request_there before.client request step h.client of.0.1 of.1.there in
-      let came = ended C attempts (es ++ more) (single_request script op step) work.front task next done ready in
+      let own : request.client ≡ c.script.id = sent_own C attempts es k before h request of.0.1 in
+      let server_is : request.server ≡ c.server = sent_where C attempts es k before h request of.0.1 in
+      let came = ended C attempts (es ++ more) request work.front task next done ready in
       let outcome : Outcome = learned.outcome in
-      let came_to : CameTo C attempts (es ++ more) (single_request script op step) work.front outcome = subst (CameTo C attempts (es ++ more) (single_request script op step) work.front) (same_Some came.0 outcome (sym came.1 ∙ learned.is)) came.2 in
-      let one : Listed = listed C attempts (es ++ more) k script op before.receipts work.front step outcome came_to in
-      let kept : learned.receipt ≡ single_receipt script op step outcome =
-      kept_is before.client work.server outcome request learned.receipt (learned.told ∙ ap (λ o. (end_call before.client work.server outcome o).1) of.0.1)
-      ∙ (λ i. receipt_of op (request_is i) (of.1.server i) (h.client.none_gone i) outcome) in
-      let now : ClientView = (end_call before.client work.server outcome (Some request)).0 in
-      let client : after.client ≡ now = learned.client ∙ ap (λ o. (end_call before.client work.server outcome o).0) of.0.1 in
+      let came_to : CameTo C attempts (es ++ more) request work.front outcome = subst (CameTo C attempts (es ++ more) request work.front) (same_Some came.0 outcome (sym came.1 ∙ learned.is)) came.2 in
+      let one : Listed = listed C attempts (es ++ more) k c before.receipts work.front request outcome of.0.1 own server_is came_to in
+      let kept : learned.receipt ≡ one.receipt =
+      kept_is c work.server outcome request learned.receipt (learned.told ∙ ap (λ o. (end_call c work.server outcome o).1) of.0.1)
+      ∙ ap (λ n. receipt_of c.op request n c.gone outcome) of.1.server in
+      let now : ClientView = (end_call c c.server outcome (Some request)).0 in
+      let client : after.client ≡ now = learned.client ∙ ap (λ o. (end_call c work.server outcome o).0) of.0.1 in
       let receipts : after.receipts ≡ before.receipts ++ one ∷ [] =
       learned.receipts ∙ ap (λ (r : Receipt). before.receipts ++ record { client = k; fronts = fronts_of C work.front; receipt = r; text = text_of r.call r.reply } ∷ []) kept in
       let seat : IsSeat C attempts (es ++ more) k (record { client = now; work = None; receipts = before.receipts ++ one ∷ [] }) =
       record {
         config = h.config;
         script = h.script;
-        client = single_end before.client work.server outcome (Some request) (sym of.0.1) h.client;
-        past = past_more C attempts (es ++ more) k script op before.receipts work.front step outcome came_to past of.1.there of.1.from;
-        working = named_more C attempts (es ++ more) k script op before.receipts work.front step outcome came_to named;
+        none_gone = refl;
+        past = past_more C attempts (es ++ more) k c before.receipts work.front request outcome of.0.1 own server_is came_to past h.none_gone of.1.from;
+        working = named_more C attempts (es ++ more) k c before.receipts work.front request outcome of.0.1 own server_is came_to named;
       } in
-      subst (λ c. IsSeat C attempts (es ++ more) k (record after { client = c })) (sym client)
+      subst (λ v. IsSeat C attempts (es ++ more) k (record after { client = v })) (sym client)
       (subst (λ w. IsSeat C attempts (es ++ more) k (record { client = now; work = w; receipts = after.receipts })) (sym learned.work)
       (subst (λ rs. IsSeat C attempts (es ++ more) k (record { client = now; work = None; receipts = rs })) (sym receipts) seat))
 
@@ -284,14 +350,17 @@ module _ (C : Settings) (attempts : ℕ) (es more : List Entry) (k : ℕ) (befor
 
 -- a turn of the store: what waits can be asked, and what comes keeps the seat
 module _ (C D : Settings) (attempts k : ℕ) (store : Store MetaEntry) (before : Seat) (work : Work) (same : D ≡ C) (h : IsSeat C attempts (entries_of store.journal) k before) (is : before.work ≡ Some work) where
-  abbrev works : IsWork C attempts (entries_of store.journal) before.client.script before.client.op before.receipts work
+  abbrev sent_is : (request : Request) × (before.client.request ≡ Some request)
+  sent_is = (work_of C attempts (entries_of store.journal) k before h work is).0
+
+  abbrev works : IsWork C attempts (entries_of store.journal) before.client before.receipts sent_is.0 work
   works = (work_of C attempts (entries_of store.journal) k before h work is).1
 
   pub to_serve : IsServed D work.task.attempts (entries_of store.journal) work.task.request work.front work.task × IsPending D work.task work.ask
   to_serve = subst (λ c. IsServed c work.task.attempts (entries_of store.journal) work.task.request work.front work.task × IsPending c work.task work.ask) (sym same) (of_task works.served, works.pending)
 
   pub client_is : work.task.request.client ≡ before.client.script.id
-  client_is = ap (λ (q : Request). q.client) works.served.request_is
+  client_is = ap (λ (q : Request). q.client) works.served.request_is ∙ sent_own C attempts (entries_of store.journal) k before h sent_is.0 sent_is.1
 
   pub seat_after : (after : Store MetaEntry) (seat : Seat) (next : Work) → length after.journal ≤ 200000 → IsGrowth store after work.task.request.client
       → IsReady D work.task.attempts (entries_of after.journal) work.task.request work.front next.task next.ask → next ≡ record work { task = next.task; ask = next.ask } → Comes C k (record before { work = None }) seat next (is_done next.ask)

@@ -1,4 +1,5 @@
 pub mod ApplyLaws
+pub mod HintLaws
 pub mod Lasts
 pub mod LinkingLaws
 pub mod MapLaws

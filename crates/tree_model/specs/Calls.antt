@@ -14,6 +14,7 @@ use Rattle.tree_model.specs.Effects.{Effect, Leaves, Makes, Settles}
 use Rattle.tree_model.specs.Finding.{lookup, stat, list, readlink, setattr}
 use Rattle.tree_model.specs.Linking.{link, unlink, rmdir}
 use Rattle.tree_model.specs.Moving.{rename}
+use Rattle.tree_model.specs.Sessions.{extend, fstat, open_to_read, open_to_write}
 use Rattle.tree_model.specs.Tree.{Tree}
 
 -- the calls whose effect is told here
@@ -22,6 +23,8 @@ is_told (calls.Lookup place) = true
 is_told (calls.Stat place) = true
 is_told (calls.List place) = true
 is_told (calls.Readlink place) = true
+is_told (calls.Openr place) = true
+is_told (calls.Fstat session) = true
 is_told (calls.Mkdir place mode layout) = true
 is_told (calls.Create place mode layout) = true
 is_told (calls.Symlink place target) = true
@@ -30,6 +33,8 @@ is_told (calls.Link from to) = true
 is_told (calls.Unlink place) = true
 is_told (calls.Rmdir place) = true
 is_told (calls.Rename from to) = true
+is_told (calls.Open place) = true
+is_told (calls.Extend session place) = true
 is_told _ = false
 
 -- a query changes nothing, and its reply isn't kept
@@ -55,6 +60,8 @@ effect_of C T q (calls.Lookup place) = lookup T place
 effect_of C T q (calls.Stat place) = stat T place
 effect_of C T q (calls.List place) = list T place
 effect_of C T q (calls.Readlink place) = readlink T place
+effect_of C T q (calls.Openr place) = open_to_read T place
+effect_of C T q (calls.Fstat session) = fstat T q.client session
 effect_of C T q (calls.Mkdir place mode layout) = make C T q.server q.stamp (new_dir mode layout) place
 effect_of C T q (calls.Create place mode layout) = make C T q.server q.stamp (new_file mode layout) place
 effect_of C T q (calls.Symlink place target) = symlink C T q.server q.stamp place target
@@ -63,6 +70,8 @@ effect_of C T q (calls.Link from to) = link T q.stamp from to
 effect_of C T q (calls.Unlink place) = unlink T q.stamp place
 effect_of C T q (calls.Rmdir place) = rmdir T place
 effect_of C T q (calls.Rename from to) = rename T q.stamp from to
+effect_of C T q (calls.Open place) = open_to_write T q.client q.number place
+effect_of C T q (calls.Extend session place) = extend T q.client session place
 effect_of C T q _ = Leaves Done
 
 abbrev pub effect : Settings → Tree → Request → Effect

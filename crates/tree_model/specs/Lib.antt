@@ -8,6 +8,7 @@ pub mod Linking
 pub mod Making
 pub mod Maps
 pub mod Moving
+pub mod Sessions
 pub mod Tree
 pub mod Walk
 pub mod Walking

@@ -7,6 +7,7 @@ use Rattle.fs_base.specs.declared.call.Changes.{Changes}
 use Rattle.fs_base.specs.declared.code.Code.TheVariants.{Stale}
 use Rattle.fs_base.specs.declared.reply.Reply.{Reply}
 use Rattle.fs_base.specs.declared.reply.Reply.TheVariants.{Done, Made, Refused}
+use Rattle.fs_base.specs.declared.reply.Reply.TheVariants as replies
 use Rattle.fs_base.specs.declared.limits.TheConstants.{LAST_NUMBER}
 use Rattle.tree_model.specs.declared.kept.Doom.TheVariants.{Waiting}
 use Rattle.tree_model.specs.declared.kept.KeptReply.{KeptReply}
@@ -18,11 +19,12 @@ use Rattle.tree_model.specs.declared.plan.Fate.{Fate}
 use Rattle.tree_model.specs.declared.plan.Fate.TheVariants.{Stays, Waits, Goes}
 use Rattle.tree_model.specs.declared.plan.Plan.{Plan}
 use Rattle.tree_model.specs.declared.plan.Shift.{Shift}
-use Rattle.tree_model.specs.declared.plan.Plan.TheVariants.{Refuse, Add, Change, Join, Detach, Keep, Move, Replace}
+use Rattle.tree_model.specs.declared.plan.Plan.TheVariants.{Refuse, Add, Change, Join, Detach, Keep, Move, Replace, Open, Extend}
 use Rattle.tree_model.specs.Attributes.{changed, touched}
 use Rattle.tree_model.specs.Effects.{Effect, Makes, refuses}
 use Rattle.tree_model.specs.Maps.{set}
 use Rattle.tree_model.specs.Moving.{moved}
+use Rattle.tree_model.specs.Sessions.{hinted}
 use Rattle.tree_model.specs.Tree.{Tree}
 
 -- the tree with the child
@@ -67,6 +69,14 @@ detached T stamp key id fate = fared (record T { entries = remove T.entries key 
 abbrev pub replaced : Tree → ℕ → Shift → ℕ → Fate → Tree
 replaced T stamp shift old fate = moved (detached T stamp shift.to old fate) shift.from shift.to shift.id
 
+-- the tree with a session: its inode, client and number
+abbrev pub opened : Tree → ℕ × (ℕ × ℕ) → Tree
+opened T key = record T { writers = insert T.writers key tt }
+
+-- the tree with another hint of the file of an id, where there is one
+abbrev pub extended : Tree → ℕ → ℕ → Tree
+extended T id hint = record T { nodes = set T.nodes id (option_map (hinted hint) (get T.nodes id)) }
+
 -- the plan is what the call does
 abbrev pub IsPlan : Tree → ℕ → ℕ → Effect → Plan → Type 0
 IsPlan T server stamp effect (Refuse code) = effect ≡ refuses code
@@ -84,6 +94,9 @@ IsPlan T server stamp effect (Move shift) =
 IsPlan T server stamp effect (Replace shift old fate) =
     (shift.from ≢ shift.to) × IsSome (get T.entries shift.to) × IsSome (get T.nodes old)
     × (effect ≡ Makes (replaced T stamp shift old fate) Done)
+IsPlan T server stamp effect (Open key file) = effect ≡ Makes (opened T key) (replies.File file)
+IsPlan T server stamp effect (Extend id hint) =
+    IsSome (get T.nodes id) × (effect ≡ Makes (extended T id hint) (replies.Hint hint))
 
 -- the reply to a number that came before, or is older than one that did
 abbrev pub earlier_reply : ℕ → Option KeptReply → Option Reply

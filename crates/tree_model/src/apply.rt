@@ -22,6 +22,8 @@ pub fn is_told(call: &Call) -> bool
             | Call::Stat(_)
             | Call::List(_)
             | Call::Readlink(_)
+            | Call::Openr(_)
+            | Call::Fstat(_)
             | Call::Mkdir { .. }
             | Call::Create { .. }
             | Call::Symlink { .. }
@@ -30,6 +32,8 @@ pub fn is_told(call: &Call) -> bool
             | Call::Unlink(_)
             | Call::Rmdir(_)
             | Call::Rename { .. }
+            | Call::Open(_)
+            | Call::Extend { .. }
     )
 }
 
@@ -68,6 +72,8 @@ impl Tree {
             Call::Stat(place) => self.stat(alloc, place),
             Call::List(place) => self.list(alloc, place),
             Call::Readlink(place) => self.readlink(alloc, place),
+            Call::Openr(place) => self.open_to_read(alloc, place),
+            Call::Fstat(session) => Ok(self.fstat(request.client, session)),
             _ => unreachable!(),
         }
     }
@@ -98,6 +104,8 @@ impl Tree {
             Call::Unlink(place) => self.plan_unlink(alloc, request, place),
             Call::Rmdir(place) => self.plan_rmdir(alloc, request, place),
             Call::Rename { from, to } => self.plan_rename(alloc, request, from, to),
+            Call::Open(place) => self.plan_open(alloc, request, place),
+            Call::Extend { session, place } => Ok(self.plan_extend(request, session, *place)),
             _ => unreachable!(),
         }
     }
@@ -127,6 +135,8 @@ impl Tree {
             Plan::Keep => self.stay_kept(request),
             Plan::Move(shift) => self.move_kept(request, shift),
             Plan::Replace(shift, old, fate) => self.replace_kept(request, shift, old, fate),
+            Plan::Open(key, file) => self.open_kept(request, key, file),
+            Plan::Extend(id, hint) => self.extend_kept(request, id, hint),
         }
     }
 

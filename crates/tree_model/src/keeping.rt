@@ -1,16 +1,17 @@
 ghost use Rattle.std.specs.Prelude.{◌≡◌, ◌≢◌, ◌<◌, IsSome, None, IfOk, OnOk, OnErr};
 ghost use Rattle.std.specs.FinMap.{get};
-ghost use Rattle.fs_base.specs.declared.reply.Reply.TheVariants.{Done, Made};
+ghost use Rattle.fs_base.specs.declared.reply.Reply.TheVariants.{Done, File, Hint, Made};
 ghost use Rattle.tree_model.specs.Calls.{keeps};
-ghost use Rattle.tree_model.specs.Making.{added, altered, detached, earlier_reply, fared, linked, replaced};
+ghost use Rattle.tree_model.specs.Making.{added, altered, detached, earlier_reply, extended, fared, linked, opened, replaced};
 ghost use Rattle.tree_model.specs.Moving.{moved};
 
 use crate::kept::{Doom, KeptReply};
 use crate::plan::{Child, Fate, Shift};
-use crate::setattr::{change_node, touch_node};
+use crate::sessions::copy_file;
+use crate::setattr::{change_node, hint_node, touch_node};
 use crate::tree::Tree;
 use fs_base::limits::LAST_NUMBER;
-use fs_base::{Changes, Code, InodeId, Memory, Name, Reply, Request};
+use fs_base::{Changes, Code, FileInfo, InodeId, Memory, Name, Reply, Request};
 use std::alloc::Global;
 
 impl Tree {
@@ -288,5 +289,55 @@ impl Tree {
                 Err(e)
             }
         }
+    }
+
+    /// Adds a session and puts the reply in, all or nothing.
+    #[tactic(auto, using(crate::proofs::Undo::there_by_id, crate::proofs::Undo::undone_by_id))]
+    pub(crate) fn open_kept(
+        &mut self,
+        request: &Request,
+        key: (u64, (u128, u64)),
+        file: FileInfo,
+    ) -> Result<Reply, Memory>
+        ensures ok { OnOk result (self.new.tree ≡ keeps (opened self.old.tree key) request.now (File file)) }
+        ensures reply { IfOk result (λ reply. reply ≡ File file) }
+        ensures config { self.new.config ≡ self.old.config }
+        ensures err { OnErr result (self.new ≡ self.old) }
+    {
+        let kept = KeptReply {
+            number: request.number,
+            reply: Reply::File(copy_file(&file)),
+        };
+        let before = self.kept.insert(request.client.0, kept)?;
+        match self.writers.insert(key, ()) {
+            Ok(_) => Ok(Reply::File(file)),
+            Err(e) => {
+                self.kept.put_back(request.client.0, before);
+                Err(e)
+            }
+        }
+    }
+
+    /// Gives a file another hint and puts the reply in, all or nothing.
+    pub(crate) fn extend_kept(
+        &mut self,
+        request: &Request,
+        id: InodeId,
+        hint: u16,
+    ) -> Result<Reply, Memory>
+        requires { IsSome (get self.old.tree.nodes id) }
+        ensures ok { OnOk result
+            (self.new.tree ≡ keeps (extended self.old.tree id hint) request.now (Hint hint)) }
+        ensures reply { IfOk result (λ reply. reply ≡ Hint hint) }
+        ensures config { self.new.config ≡ self.old.config }
+        ensures err { OnErr result (self.new ≡ self.old) }
+    {
+        let kept = KeptReply {
+            number: request.number,
+            reply: Reply::Hint(hint),
+        };
+        self.kept.insert(request.client.0, kept)?;
+        hint_node(&mut self.nodes, id.get(), hint);
+        Ok(Reply::Hint(hint))
     }
 }

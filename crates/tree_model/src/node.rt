@@ -1,8 +1,9 @@
 ghost use Rattle.std.specs.Prelude.{◌≡◌};
 ghost use Rattle.tree_model.specs.Attributes.{kind_of_part, length_of, changed, touched};
+ghost use Rattle.tree_model.specs.Sessions.{file_of, hinted, part_with_hint};
 ghost use Rattle.tree_model.specs.Tree.{root_of, node_with};
 
-use fs_base::{Changes, Config, DefaultLayout, Kind, Layout, Text};
+use fs_base::{Changes, Config, DefaultLayout, FileInfo, InodeId, Kind, Layout, Text};
 
 /// What a node is.
 #[derive(Debug, Drop)]
@@ -45,6 +46,48 @@ impl NodePart {
             NodePart::Dir { .. } => 0,
             NodePart::File { length, .. } => *length,
             NodePart::Link { target } => target.len() as u64,
+        }
+    }
+
+    /// What a descriptor of it is opened with, where it is the file of this id.
+    pub(crate) fn file(&self, id: InodeId) -> Option<FileInfo>
+        ensures { result ≡ file_of id self.now }
+    {
+        match self {
+            NodePart::Dir { .. } => None,
+            NodePart::File {
+                length,
+                truncs,
+                layout,
+                hint,
+            } => Some(FileInfo {
+                inode: id,
+                length: *length,
+                truncs: *truncs,
+                layout: *layout,
+                hint: *hint,
+            }),
+            NodePart::Link { .. } => None,
+        }
+    }
+
+    /// The same, with another hint where it is a file.
+    fn with_hint(self, hint: u16) -> NodePart
+        ensures { result ≡ part_with_hint hint self }
+    {
+        match self {
+            NodePart::File {
+                length,
+                truncs,
+                layout,
+                ..
+            } => NodePart::File {
+                length,
+                truncs,
+                layout,
+                hint,
+            },
+            other => other,
         }
     }
 }
@@ -96,6 +139,16 @@ impl Node {
     {
         Node {
             ctime: stamp,
+            ..self
+        }
+    }
+
+    /// The node with another hint, where it is a file.
+    pub(crate) fn hinted(self, hint: u16) -> Node
+        ensures { result ≡ hinted hint self }
+    {
+        Node {
+            part: self.part.with_hint(hint),
             ..self
         }
     }

@@ -1,5 +1,5 @@
 use crate::node::Node;
-use fs_base::{Changes, Code, InodeId, Name};
+use fs_base::{Changes, Code, FileInfo, InodeId, Name};
 
 /// A new node with its entry, and the number that its server gave.
 #[derive(Drop)]
@@ -47,4 +47,8 @@ pub enum Plan {
     Move(Shift),
     /// The same, where an entry of the node of this id stood, which has lost it.
     Replace(Shift, InodeId, Fate),
+    /// A session: inode, client and number. The file is what it is opened with.
+    Open((u64, (u128, u64)), FileInfo),
+    /// The file of this id gets this hint.
+    Extend(InodeId, u16),
 }

@@ -5,6 +5,7 @@ ghost use Rattle.tree_model.specs.Attributes.{changed, touched};
 ghost use Rattle.tree_model.specs.Finding.{setattr, setattr_at};
 ghost use Rattle.tree_model.specs.Making.{IsPlan};
 ghost use Rattle.tree_model.specs.Maps.{set};
+ghost use Rattle.tree_model.specs.Sessions.{hinted};
 
 use crate::maps::ByNumber;
 use crate::node::{Node, NodePart};
@@ -41,6 +42,16 @@ pub(crate) fn touch_node(nodes: &mut ByNumber<Node>, id: u64, stamp: u64)
 {
     let node = nodes.replace(id, spare_node());
     nodes.replace(id, node.touched(stamp));
+}
+
+/// Gives the file of an id another hint. It takes no memory.
+#[tactic(auto, using(crate::proofs::Undo::over_by_id, crate::proofs::Undo::there_by_id))]
+pub(crate) fn hint_node(nodes: &mut ByNumber<Node>, id: u64, hint: u16)
+    requires { IsSome (get nodes.old id) }
+    ensures { nodes.new ≡ set nodes.old id (option_map (hinted hint) (get nodes.old id)) }
+{
+    let node = nodes.replace(id, spare_node());
+    nodes.replace(id, node.hinted(hint));
 }
 
 impl Tree {

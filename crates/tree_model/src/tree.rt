@@ -16,7 +16,7 @@ pub struct Tree {
     pub(crate) config: Config,
     pub(crate) nodes: ByNumber<Node>,
     pub(crate) entries: ByName<InodeId>,
-    writers: BySession<()>,
+    pub(crate) writers: BySession<()>,
     pub(crate) kept: ByClient<KeptReply>,
     pub(crate) doomed: ByNumber<Doom>,
     pub(crate) next: ByNumber<u32>,

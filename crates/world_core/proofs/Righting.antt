@@ -1,8 +1,7 @@
 -- From clients that have ended to the record of their run.
-use Rattle.std.proofs.Common.{◌≡◌, ◌≢◌, ℕ, zero, suc, ◌+◌, ◌<◌, ◌≤◌, inl, inr, List, [], ◌∷◌, ◌++◌, map, Some, None, Bool, true, false, cond, eqb, length, take, count_by, refl, sym, ap, subst, ◌∙◌, arith, zero-add}
+use Rattle.std.proofs.Common.{◌≡◌, ◌≢◌, ℕ, zero, suc, ◌+◌, ◌<◌, ◌≤◌, inl, inr, List, [], ◌∷◌, ◌++◌, map, Some, None, Bool, true, false, cond, eqb, length, count_by, refl, sym, ap, subst, ◌∙◌, arith, zero-add}
 use Rattle.std.specs.Prelude.{slice_get}
 use Rattle.std.proofs.lemmas.Bool.{and_parts, and_from, cases_Bool, eqb-true, eq-eqb}
-use Rattle.std.proofs.lemmas.List.{take_all}
 use Rattle.std.proofs.lemmas.List.Sums.{sum_by-append, sum_by-cons}
 use Rattle.std.proofs.lemmas.Option.{same_Some}
 use Rattle.fs_base.specs.Config.{Settings}
@@ -12,20 +11,20 @@ use Rattle.path_walk.specs.Footprint.{footprint}
 use Rattle.row_tree.specs.HasTree.{HasTree}
 use Rattle.tree_model.specs.Tree.{Tree}
 use Rattle.txn_task.specs.declared.messages.Entry.{Entry}
-use Rattle.client_core.specs.Client.{has_ended}
+use Rattle.txn_task.specs.declared.outcome.Receipt.{Receipt}
+use Rattle.client_core.specs.Client.{ClientView, has_ended, new_client}
+use Rattle.client_core.specs.Courses.{AreNumbered, IsFrom, after_courses}
 use Rattle.client_core.specs.Plans.{AreDistinct}
 use Rattle.client_core.specs.Scripts.{scripts_in}
-use Rattle.client_core.specs.declared.plan.Op.{Op}
 use Rattle.client_core.specs.declared.plan.Script.{Script}
 use Rattle.run_record.specs.Legal.{EntryAt, journal_rows, tree_at}
-use Rattle.run_record.specs.Follow.{Follow}
 use Rattle.run_record.specs.Receipts.{AreReceipts, IsReceipt, IsSection}
 use Rattle.run_record.specs.Right.{AreSections, IsRight, IsRightEntry, names_place, summary_of}
 use Rattle.run_record.specs.declared.run.Listed.{Listed}
 use Rattle.run_record.specs.declared.run.Record.{Record}
+use Rattle.client_core.proofs.Courses.{numbered}
 use Rattle.client_core.proofs.Ending.{ended_is}
 use Rattle.client_core.proofs.Scripts.{scripts_are}
-use Rattle.run_record.proofs.Replaying.{section_of}
 use Rattle.run_record.proofs.Naming.{naming}
 use Rattle.request_run.specs.Served.{AreCovered}
 use Rattle.seat_turns.specs.Kept.{HasReceipt, IsSeat}
@@ -62,8 +61,17 @@ entry_right C journal place e s covered at =
 
 section : (C : Settings) (attempts : ℕ) (journal : List Entry) (k : ℕ) (seat : Seat) → IsSeat C attempts journal k seat → has_ended seat.client ≡ true → IsSection C attempts journal k seat.client.script seat.receipts
 section C attempts journal k seat h ended =
-    let all : take seat.client.op seat.client.script.ops ≡ seat.client.script.ops = take_all seat.client.op seat.client.script.ops (ended_is seat.client ended).1 in
-    section_of C attempts journal k seat.client.script seat.receipts (subst (λ (steps : List Op). Follow k seat.client.script 0 steps seat.receipts) all h.past.follow) h.past.each h.past.rises
+    let rest : ClientView = after_courses (new_client C seat.client.script) h.past.courses in
+    let at_rest : seat.client ≡ rest = subst (IsFrom rest seat.client) (ended_is seat.client ended).0 h.past.from in
+    record {
+      courses = h.past.courses;
+      told = h.past.told;
+      ended = subst (λ (c : ClientView). has_ended c ≡ true) at_rest ended;
+      none_gone = h.past.none_gone;
+      ordinals = h.past.ordinals;
+      each = h.past.each;
+      rises = h.past.rises;
+    }
 
 sections : (C : Settings) (attempts : ℕ) (journal : List Entry) (seats : List Seat) (base : ℕ)
     → ((k : ℕ) (seat : Seat) → slice_get seats k ≡ Some seat → IsSeat C attempts journal (base + k) seat × (has_ended seat.client ≡ true))
@@ -112,34 +120,28 @@ module _ (C : Settings) (attempts : ℕ) (journal : List Entry) (place : ℕ) (e
     | inr other ↦ omega (arith, counted place listed rest false other, none_other client rest n h.1)
   ]
 
-  -- a receipt in its script's order that names the entry has its ordinal
-  ordinal_is : (k : ℕ) (script : Script) (op : ℕ) (step : Op) (steps : List Op) (listed : Listed) (rest : List Listed) → IsReceipt C attempts journal script.id listed → Follow k script op (step ∷ steps) (listed ∷ rest)
-      → names_place place listed ≡ true → e.request.number ≡ op + 1
-  ordinal_is k script op step steps listed rest h follow names =
-      same_Some e.request.number (op + 1) (sym (named_is script.id listed h names).1 ∙ follow.2.number)
-
   -- nor do receipts of later operations
-  none_later : (k : ℕ) (script : Script) (op : ℕ) (steps : List Op) (receipts : List Listed) → e.request.number ≤ op → AreReceipts C attempts journal script.id receipts → Follow k script op steps receipts → naming place receipts ≡ 0
-  none_later k script op steps [] l h follow = refl
-  none_later k script op [] (listed ∷ rest) l h follow = absurd follow
-  none_later k script op (step ∷ steps) (listed ∷ rest) l h follow = elim (cases_Bool (names_place place listed)) [
-    | inl names ↦ absurd (let n : e.request.number ≡ op + 1 = ordinal_is k script op step steps listed rest h.0 follow names in omega arith)
-    | inr other ↦ omega (arith, counted place listed rest false other, none_later k script (op + 1) steps rest (omega arith) h.1 follow.4)
+  none_later : (client : ClientId) (op last : ℕ) (receipts : List Listed) → e.request.number ≤ op → AreReceipts C attempts journal client receipts
+      → AreNumbered op (map (λ (l : Listed). l.receipt) receipts) last → naming place receipts ≡ 0
+  none_later client op last [] l h numbers = refl
+  none_later client op last (listed ∷ rest) l h numbers = elim (cases_Bool (names_place place listed)) [
+    | inl names ↦ absurd (let n : e.request.number ≡ op + 1 = same_Some e.request.number (op + 1) (sym (named_is client listed h.0 names).1 ∙ numbers.1) in omega arith)
+    | inr other ↦ omega (arith, counted place listed rest false other, none_later client (op + 1) last rest (omega arith) h.1 numbers.2)
   ]
 
   -- of a client's receipts one does
-  one_receipt : (k : ℕ) (script : Script) (op : ℕ) (steps : List Op) (receipts : List Listed) → AreReceipts C attempts journal script.id receipts → Follow k script op steps receipts → HasReceipt receipts place → naming place receipts ≡ 1
-  one_receipt k script op steps [] h follow has = absurd has
-  one_receipt k script op [] (listed ∷ rest) h follow has = absurd follow
-  one_receipt k script op (step ∷ steps) (listed ∷ rest) h follow has = elim (cases_Bool (names_place place listed)) [
+  one_receipt : (client : ClientId) (op last : ℕ) (receipts : List Listed) → AreReceipts C attempts journal client receipts
+      → AreNumbered op (map (λ (l : Listed). l.receipt) receipts) last → HasReceipt receipts place → naming place receipts ≡ 1
+  one_receipt client op last [] h numbers has = absurd has
+  one_receipt client op last (listed ∷ rest) h numbers has = elim (cases_Bool (names_place place listed)) [
     | inl names ↦
-        (let number : e.request.number ≡ op + 1 = ordinal_is k script op step steps listed rest h.0 follow names in
-        let none : naming place rest ≡ 0 = none_later k script (op + 1) steps rest (omega arith) h.1 follow.4 in
+        (let number : e.request.number ≡ op + 1 = same_Some e.request.number (op + 1) (sym (named_is client listed h.0 names).1 ∙ numbers.1) in
+        let none : naming place rest ≡ 0 = none_later client (op + 1) last rest (omega arith) h.1 numbers.2 in
         let first : naming place (listed ∷ rest) ≡ 1 + naming place rest = counted place listed rest true names in
         omega arith)
     | inr other ↦ elim has [
       | inl here ↦ absurd (let f : true ≡ false = sym (and_from listed.receipt.committed (eqb listed.receipt.version (place + 1)) here.0 (eq-eqb listed.receipt.version (place + 1) here.1)) ∙ other in cc)
-      | inr later ↦ omega (arith, counted place listed rest false other, one_receipt k script (op + 1) steps rest h.1 follow.4 later)
+      | inr later ↦ omega (arith, counted place listed rest false other, one_receipt client (op + 1) last rest h.1 numbers.2 later)
     ]
   ]
 
@@ -178,7 +180,9 @@ named_once C attempts journal seats distinct seated ended place l =
         let still : x.client.request ≡ None = (ended_is x.client (ended owner.0 x owner.2)).0 in
         let has : HasReceipt x.receipts place = unsent C attempts journal owner.0 x h still place e at owner.3 in
         one_in place seats owner.0 x owner.2
-        (one_receipt C attempts journal place e at owner.0 x.client.script 0 (take x.client.op x.client.script.ops) x.receipts h.past.each h.past.follow has)
+        (one_receipt C attempts journal place e at x.client.script.id 0 (after_courses (new_client C x.client.script) h.past.courses).op x.receipts h.past.each
+        (subst (λ (told : List Receipt). AreNumbered 0 told (after_courses (new_client C x.client.script) h.past.courses).op) (sym h.past.told)
+        (numbered C x.client.script h.past.courses)) has)
         (λ j z apart at_z. none_other C attempts journal place e at z.client.script.id z.receipts
         (λ same. apart (one_seat seats j owner.0 z x distinct at_z owner.2 (sym same ∙ owner.3))) (seated.all j z at_z).past.each)
 
