@@ -1,6 +1,7 @@
 -- A hint that is doubled until it is above a place.
-use Rattle.std.proofs.Common.{◌≡◌, ℕ, zero, suc, ◌+◌, ◌-◌, ◌<◌, ◌≤◌, cond, refl, sym, ap, ◌∙◌, arith, lt-ltb, le-ltb}
-use Rattle.tree_model.specs.Sessions.{doubled}
+use Rattle.std.proofs.Common.{◌≡◌, ℕ, zero, suc, ◌+◌, ◌-◌, ◌<◌, ◌≤◌, nat_lt, Bool, true, false, cond, refl, sym, ap, ◌∙◌, arith, lt-ltb, le-ltb}
+use Rattle.std.proofs.lemmas.Bool.{ltb-false}
+use Rattle.tree_model.specs.Sessions.{doubled, hint_over}
 
 pub doubled_above : (times place hint : ℕ) → place < hint → doubled times place hint ≡ hint
 unfolding doubled
@@ -21,3 +22,20 @@ doubled_next (suc times) place hint some below =
 pub doubled_no_more : (place hint : ℕ) → doubled 0 place hint ≡ hint
 unfolding doubled
 doubled_no_more place hint = refl
+
+doubled_rises : (times place hint : ℕ) → hint ≤ doubled times place hint
+unfolding doubled
+doubled_rises zero place hint = omega arith
+doubled_rises (suc times) place hint = by (nat_lt place hint) (doubled_rises times place (hint + hint))
+  where
+    by : (b : Bool) → hint + hint ≤ doubled times place (hint + hint) → hint ≤ cond b hint (doubled times place (hint + hint))
+    by true more = omega arith
+    by false more = omega arith
+
+-- some places are in use, and at most those of the stripe
+pub hint_over_fits : (stripe place hint : ℕ) → 1 ≤ stripe → 1 ≤ hint → (1 ≤ hint_over stripe place hint) × (hint_over stripe place hint ≤ stripe)
+hint_over_fits stripe place hint some used = by (nat_lt stripe (doubled 16 place hint)) refl
+  where
+    by : (b : Bool) → nat_lt stripe (doubled 16 place hint) ≡ b → (1 ≤ cond b stripe (doubled 16 place hint)) × (cond b stripe (doubled 16 place hint) ≤ stripe)
+    by true e = (some, omega arith)
+    by false e = let more = doubled_rises 16 place hint in let most = ltb-false stripe (doubled 16 place hint) e in (omega arith, omega arith)
