@@ -1,13 +1,12 @@
 -- Write sessions and hints: what the rows tell of a session and its file, and the rows with a session put or a
 -- hint changed.
 use Rattle.std.proofs.Common.{◌≡◌, ◌≢◌, ℕ, ◌<◌, ◌≤◌, false, cond, List, [], ◌∷◌, refl, sym, ap, subst, ◌∙◌, inl, inr, arith, eq-eqb, ne_eqb, lt-ltb, le-ltb}
-use Rattle.std.specs.Prelude.{Option, Some, None, Result, Ok, Err}
+use Rattle.std.specs.Prelude.{Option, Some, None, Ok, Err}
 use Rattle.std.specs.Option.{is_some, ok_or, option_map}
 use Rattle.std.specs.FinMap.{FinMap, get, insert}
 use Rattle.std.specs.Ordering.{nat_cmp}
 use Rattle.fs_base.specs.Config.{Settings}
 use Rattle.fs_base.specs.declared.call.Session.{Session}
-use Rattle.fs_base.specs.declared.code.Code.{Code}
 use Rattle.fs_base.specs.declared.code.Code.TheVariants as codes
 use Rattle.fs_base.specs.declared.ids.ClientId.{ClientId}
 use Rattle.fs_base.specs.declared.kind.Kind.TheVariants as kinds
@@ -21,14 +20,14 @@ use Rattle.row_records.specs.declared.rows.GcRow.{GcRow}
 use Rattle.row_records.specs.declared.rows.GcRow.TheVariants.{Waiting, Purged}
 use Rattle.tree_model.specs.declared.node.Node.{Node}
 use Rattle.tree_model.specs.Effects.{Effect, Makes, refuses}
-use Rattle.tree_model.specs.Sessions.{extend_file, file_of, file_there, has_session, hint_over, hinted, opened_node, part_with_hint, session_file, with_hint, with_writer}
+use Rattle.tree_model.specs.Sessions.{extend_file, file_of, file_there, hint_over, opened_node, part_with_hint, session_file, with_hint, with_writer}
 use Rattle.tree_model.specs.Tree.{Tree}
 use Rattle.tree_model.proofs.HintLaws.{hint_over_fits}
 use Rattle.tree_model.proofs.MapLaws.{holders, ids, decide, get-set_cases, map_values-set, set_present}
 use Rattle.row_tree.specs.Steps.{MayChange, hinted_row, part_hinted, with_row, with_session}
 use Rattle.row_tree.specs.TreeOf.{tree_of, node_of, node_part}
 use Rattle.row_tree.specs.TypedRows.{TypedRows, kind_of, parent_of}
-use Rattle.row_tree.specs.WellFormed.{IsPath, HasKind, FitsConfig, IsDoomed, IsLayout, IsWellFormed}
+use Rattle.row_tree.specs.WellFormed.{IsPath, HasKind, FitsConfig, IsDoomed, IsWellFormed}
 use Rattle.row_tree.proofs.Changing.{changes_row, tree_with_row}
 use Rattle.row_tree.proofs.Telling.{node_is, writer_is}
 
@@ -172,9 +171,7 @@ module _ (S : TypedRows) (id : ℕ) (row : InodeRow) (there : get S.inodes id �
 
     new_fits : (1 ≤ new) × (new ≤ layout.stripe)
     new_fits =
-        let used = (file_fits).1 in
-        let most = (file_fits).2 in
-        hint_over_fits layout.stripe place hint (omega arith) used
+        hint_over_fits layout.stripe place hint (file_fits).1 (file_fits).2
 
     part_new : part_hinted new row.part ≡ parts.File length truncs layout new
     part_new = ap (part_hinted new) is_file
