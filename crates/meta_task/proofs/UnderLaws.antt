@@ -51,7 +51,7 @@ first_under C q reads op first new = record {
     by_query false call kept is = absurd (cc)
 
     begun : IsNew q reads → KeepsAreas C (λ T. footprint C T q) (areas_of op) reads
-    begun (inl query) S good agrees = ([], tt, by_query (is_query q.call) (call_areas C (tree_of S) q.server q.call) _ query ∙ sym (first.areas (tree_of S)))
+    begun (inl query) S good agrees = ([], tt, by_query (is_query q.call) (call_areas C (tree_of S) q q.call) _ query ∙ sym (first.areas (tree_of S)))
     begun (inr new) S good agrees =
         let read = update_reads C q reads new.0 new.1 new.2 S good agrees in
         (read.0, read.1, read.2 ∙ ap (λ (l : List Area). read.0 ++ l) (sym (first.areas (tree_of S))))
@@ -98,7 +98,7 @@ under_read C q reads op under all = read_behind C (λ T. footprint C T q) (areas
 -- an update's client's kept reply comes first
 pub kept_may : (C : Settings) (q : Request) (reads : ReadSet) → is_query q.call ≡ false → IsUnread reads (keys.Idem q.client) → MayAsk C (λ T. footprint C T q) reads (asks.Get (keys.Idem q.client))
 kept_may C q reads update unread S good agrees =
-    let areas : List Area = call_areas C (tree_of S) q.server q.call in
+    let areas : List Area = call_areas C (tree_of S) q q.call in
     let rest : List Area = if_new (get (tree_of S).kept q.client.0) q.number areas in
     subst (λ b. IsNextOf reads (cond b areas (OneKey (keys.Idem q.client) ∷ rest)) (asks.Get (keys.Idem q.client))) (sym update) (inl (refl, unread))
 

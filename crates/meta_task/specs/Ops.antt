@@ -52,5 +52,5 @@ IsReady (Rename task) = rename.IsReady task
 pub record IsFirst (C : Settings) (q : Request) (op : OpTask) : Type 0 where
   pub config : config_of op ≡ C
   pub effect : (T : Tree) → effect_of op T ≡ effect C T q
-  pub areas : (T : Tree) → areas_of op T ≡ call_areas C T q.server q.call
+  pub areas : (T : Tree) → areas_of op T ≡ call_areas C T q q.call
   pub ready : IsReady op

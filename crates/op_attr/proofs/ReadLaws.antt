@@ -81,13 +81,13 @@ is_effect C T q asked what at is so = by asked so ∙ ap (λ x. effect C T (reco
     by (calls.Setattr from given) so = λ i. at_end T (so.0 i) (end_of (so.1 i)) (at_end_of (so.1 i) T)
     by asked so = absurd so
 
-is_area : (C : Settings) (T : Tree) (server stamp : ℕ) (asked : Call) (what : AttrCall) (at : Place) → IsCallAt stamp asked what at → along T at (end_of what) None (read_at what) ≡ call_areas C T server asked
-is_area C T server stamp (calls.Lookup from) what at so = λ i. along T (so.0 i) (end_of (so.1 i)) None (read_at (so.1 i))
-is_area C T server stamp (calls.Stat from) what at so = λ i. along T (so.0 i) (end_of (so.1 i)) None (read_at (so.1 i))
-is_area C T server stamp (calls.List from) what at so = λ i. along T (so.0 i) (end_of (so.1 i)) None (read_at (so.1 i))
-is_area C T server stamp (calls.Readlink from) what at so = λ i. along T (so.0 i) (end_of (so.1 i)) None (read_at (so.1 i))
-is_area C T server stamp (calls.Setattr from given) what at so = λ i. along T (so.0 i) (end_of (so.1 i)) None (read_at (so.1 i))
-is_area C T server stamp asked what at so = absurd so
+is_area : (C : Settings) (T : Tree) (q : Request) (asked : Call) (what : AttrCall) (at : Place) → IsCallAt q.stamp asked what at → along T at (end_of what) None (read_at what) ≡ call_areas C T q asked
+is_area C T q (calls.Lookup from) what at so = λ i. along T (so.0 i) (end_of (so.1 i)) None (read_at (so.1 i))
+is_area C T q (calls.Stat from) what at so = λ i. along T (so.0 i) (end_of (so.1 i)) None (read_at (so.1 i))
+is_area C T q (calls.List from) what at so = λ i. along T (so.0 i) (end_of (so.1 i)) None (read_at (so.1 i))
+is_area C T q (calls.Readlink from) what at so = λ i. along T (so.0 i) (end_of (so.1 i)) None (read_at (so.1 i))
+is_area C T q (calls.Setattr from given) what at so = λ i. along T (so.0 i) (end_of (so.1 i)) None (read_at (so.1 i))
+is_area C T q asked what at so = absurd so
 
 module _ (task : AttrTask) (q : Request) (at : Place) (is : IsCallAt q.stamp q.call task.call at) (starts : (T : Tree) → trip_at task.stage T ≡ trip_from at (end_of task.call) None T) where
   pub begins_so : (T : Tree) → effect_of task T ≡ effect task.config T q
@@ -96,8 +96,8 @@ module _ (task : AttrTask) (q : Request) (at : Place) (is : IsCallAt q.stamp q.c
       ∙ from_words (at_end_of task.call T) (stops task.call T) T at.base (end_of task.call) (path_of at.text) None
       ∙ is_effect task.config T q q.call task.call at refl is
 
-  pub begins_areas : (T : Tree) → areas_of task T ≡ call_areas task.config T q.server q.call
-  begins_areas T = ap (λ (trip : Trip). trip_areas trip (read_at task.call)) (starts T) ∙ is_area task.config T q.server q.stamp q.call task.call at is
+  pub begins_areas : (T : Tree) → areas_of task T ≡ call_areas task.config T q q.call
+  begins_areas T = ap (λ (trip : Trip). trip_areas trip (read_at task.call)) (starts T) ∙ is_area task.config T q q.call task.call at is
 
 -- ---- numbers in their ranges
 

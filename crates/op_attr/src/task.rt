@@ -55,7 +55,7 @@ impl AttrTask {
         ensures effect { IfOk result (λ task. (T : Tree) → effect_of task T ≡ effect config.now T request.now) }
         ensures areas { IfOk result
             (λ task. (T : Tree)
-            → areas_of task T ≡ call_areas config.now T request.now.server request.now.call) }
+            → areas_of task T ≡ call_areas config.now T request.now request.now.call) }
         ensures ready { IfOk result IsReady }
     {
         match &request.call {
@@ -90,7 +90,7 @@ impl AttrTask {
         ensures effect { IfOk result (λ task. (T : Tree) → effect_of task T ≡ effect config.now T request.now) }
         ensures areas { IfOk result
             (λ task. (T : Tree)
-            → areas_of task T ≡ call_areas config.now T request.now.server request.now.call) }
+            → areas_of task T ≡ call_areas config.now T request.now request.now.call) }
         ensures ready { IfOk result IsReady }
     {
         let stage = Stage::new(alloc, place, end_of(call), None)?;

@@ -109,11 +109,11 @@ is_wanted C T q (calls.Symlink from target) where_to node is =
     ∙ same_path (path_of from.text) _ _ (λ path. by_target (path_of target) (make_at C T q.server q.stamp (new_link target) (resolve T from.base path Parent)))
 is_wanted C T q what where_to node is = absurd is
 
-is_areas : (C : Settings) (T : Tree) (server : ℕ) (what : Call) (where_to : Place) (node : NewNode) → IsMade what where_to node → makes C T server where_to node ≡ call_areas C T server what
-is_areas C T server (calls.Mkdir from m given) where_to node is = λ i. makes C T server (is.0 i) (is.1 i)
-is_areas C T server (calls.Create from m given) where_to node is = λ i. makes C T server (is.0 i) (is.1 i)
-is_areas C T server (calls.Symlink from target) where_to node is = λ i. makes C T server (is.0 i) (is.1 i)
-is_areas C T server what where_to node is = absurd is
+is_areas : (C : Settings) (T : Tree) (q : Request) (what : Call) (where_to : Place) (node : NewNode) → IsMade what where_to node → makes C T q.server where_to node ≡ call_areas C T q what
+is_areas C T q (calls.Mkdir from m given) where_to node is = λ i. makes C T q.server (is.0 i) (is.1 i)
+is_areas C T q (calls.Create from m given) where_to node is = λ i. makes C T q.server (is.0 i) (is.1 i)
+is_areas C T q (calls.Symlink from target) where_to node is = λ i. makes C T q.server (is.0 i) (is.1 i)
+is_areas C T q what where_to node is = absurd is
 
 module _ (task : CreateTask) (q : Request) (where_to : Place) (server : task.server ≡ q.server) (stamp : task.stamp ≡ q.stamp) (is : IsMade q.call where_to task.node)
     (starts : (T : Tree) → trip_at task.stage T ≡ trip_from where_to Parent (node_fault task.config task.node) T) where
@@ -124,11 +124,11 @@ module _ (task : CreateTask) (q : Request) (where_to : Place) (server : task.ser
       ∙ (λ i. wanted task.config T (server i) (stamp i) task.node where_to)
       ∙ is_wanted task.config T q q.call where_to task.node is
 
-  pub begins_areas : (T : Tree) → areas_of task T ≡ call_areas task.config T q.server q.call
+  pub begins_areas : (T : Tree) → areas_of task T ≡ call_areas task.config T q q.call
   begins_areas T =
       ap (λ (trip : Trip). trip_areas trip (child_at task.server T)) (starts T)
       ∙ (λ i. makes task.config T (server i) where_to task.node)
-      ∙ is_areas task.config T q.server q.call where_to task.node is
+      ∙ is_areas task.config T q q.call where_to task.node is
 
 -- ---- numbers in their ranges
 

@@ -55,11 +55,11 @@ is_wanted C T q (calls.Unlink from) what at so = λ i. wanted T q.stamp (so.0 i)
 is_wanted C T q (calls.Rmdir from) what at so = λ i. wanted T q.stamp (so.0 i) (so.1 i)
 is_wanted C T q asked what at so = absurd so
 
-is_area : (C : Settings) (T : Tree) (server : ℕ) (asked : Call) (what : LinkCall) (at : Place) → IsCallAt asked what at → along T at (end_of what) (fault_of what) (reads_at what T) ≡ call_areas C T server asked
-is_area C T server (calls.Link from to) what at so = λ i. along T (so.0 i) (end_of (so.1 i)) (fault_of (so.1 i)) (reads_at (so.1 i) T)
-is_area C T server (calls.Unlink from) what at so = λ i. along T (so.0 i) (end_of (so.1 i)) (fault_of (so.1 i)) (reads_at (so.1 i) T)
-is_area C T server (calls.Rmdir from) what at so = λ i. along T (so.0 i) (end_of (so.1 i)) (fault_of (so.1 i)) (reads_at (so.1 i) T)
-is_area C T server asked what at so = absurd so
+is_area : (C : Settings) (T : Tree) (q : Request) (asked : Call) (what : LinkCall) (at : Place) → IsCallAt asked what at → along T at (end_of what) (fault_of what) (reads_at what T) ≡ call_areas C T q asked
+is_area C T q (calls.Link from to) what at so = λ i. along T (so.0 i) (end_of (so.1 i)) (fault_of (so.1 i)) (reads_at (so.1 i) T)
+is_area C T q (calls.Unlink from) what at so = λ i. along T (so.0 i) (end_of (so.1 i)) (fault_of (so.1 i)) (reads_at (so.1 i) T)
+is_area C T q (calls.Rmdir from) what at so = λ i. along T (so.0 i) (end_of (so.1 i)) (fault_of (so.1 i)) (reads_at (so.1 i) T)
+is_area C T q asked what at so = absurd so
 
 module _ (C : Settings) (task : LinkTask) (q : Request) (at : Place) (stamp : task.stamp ≡ q.stamp) (is : IsCallAt q.call task.call at)
     (starts : (T : Tree) → trip_at task.stage T ≡ trip_from at (end_of task.call) (fault_of task.call) T) where
@@ -70,5 +70,5 @@ module _ (C : Settings) (task : LinkTask) (q : Request) (at : Place) (stamp : ta
       ∙ ap (λ s. wanted T s at task.call) stamp
       ∙ is_wanted C T q q.call task.call at is
 
-  pub begins_areas : (T : Tree) → areas_of task T ≡ call_areas C T q.server q.call
-  begins_areas T = ap (λ (trip : Trip). trip_areas trip (reads_at task.call T)) (starts T) ∙ is_area C T q.server q.call task.call at is
+  pub begins_areas : (T : Tree) → areas_of task T ≡ call_areas C T q q.call
+  begins_areas T = ap (λ (trip : Trip). trip_areas trip (reads_at task.call T)) (starts T) ∙ is_area C T q q.call task.call at is

@@ -69,7 +69,7 @@ impl LinkTask {
         ensures effect { IfOk result (λ task. (T : Tree) → effect_of task T ≡ effect config.now T request.now) }
         ensures areas { IfOk result
             (λ task. (T : Tree)
-            → areas_of task T ≡ call_areas config.now T request.now.server request.now.call) }
+            → areas_of task T ≡ call_areas config.now T request.now request.now.call) }
         ensures ready { IfOk result IsReady }
     {
         match &request.call {
@@ -97,7 +97,7 @@ impl LinkTask {
         ensures effect { IfOk result (λ task. (T : Tree) → effect_of task T ≡ effect config.now T request.now) }
         ensures areas { IfOk result
             (λ task. (T : Tree)
-            → areas_of task T ≡ call_areas config.now T request.now.server request.now.call) }
+            → areas_of task T ≡ call_areas config.now T request.now request.now.call) }
         ensures ready { IfOk result IsReady }
     {
         let fault = fault_of(alloc, &call)?;

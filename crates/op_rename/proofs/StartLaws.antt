@@ -55,5 +55,5 @@ module _ (C : Settings) (task : RenameTask) (q : Request) (from : Place) (stamp 
       ∙ is_wanted T q.stamp from task.to
       ∙ sym (ap (table.effect_of C T q) is)
 
-  pub begins_areas : (T : Tree) → areas_of task T ≡ call_areas C T q.server q.call
-  begins_areas T = ap (λ (trip : Trip). trip_areas trip (reads_at task.to T)) (starts T) ∙ sym (ap (call_areas C T q.server) is)
+  pub begins_areas : (T : Tree) → areas_of task T ≡ call_areas C T q q.call
+  begins_areas T = ap (λ (trip : Trip). trip_areas trip (reads_at task.to T)) (starts T) ∙ sym (ap (call_areas C T q) is)

@@ -61,7 +61,7 @@ impl RenameTask {
         ensures effect { IfOk result (λ task. (T : Tree) → effect_of task T ≡ effect config.now T request.now) }
         ensures areas { IfOk result
             (λ task. (T : Tree)
-            → areas_of task T ≡ call_areas config.now T request.now.server request.now.call) }
+            → areas_of task T ≡ call_areas config.now T request.now request.now.call) }
         ensures ready { IfOk result IsReady }
     {
         match &request.call {
@@ -84,7 +84,7 @@ impl RenameTask {
         ensures effect { IfOk result (λ task. (T : Tree) → effect_of task T ≡ effect config.now T request.now) }
         ensures areas { IfOk result
             (λ task. (T : Tree)
-            → areas_of task T ≡ call_areas config.now T request.now.server request.now.call) }
+            → areas_of task T ≡ call_areas config.now T request.now request.now.call) }
         ensures ready { IfOk result IsReady }
     {
         let fault = fault_of(alloc, from, to)?;

@@ -31,8 +31,8 @@ use Rattle.txn_task.proofs.WriteLaws.{written_at-set_write}
 use Rattle.txn_task.specs.declared.messages.OpStep.TheVariants as steps
 use Rattle.path_walk.specs.Areas.{Area}
 use Rattle.path_walk.specs.Owed.{HasDone, HasRead, IsOpCommit, KeepsEffect, IsKeptBefore}
-use Rattle.path_walk.specs.Puts.{put_writes, with_puts, holds_reply, ArePuts, MakesPuts}
-use Rattle.path_walk.specs.Sound.{WritesChange, IsSoundEntry, kept_value}
+use Rattle.path_walk.specs.Puts.{put_writes, with_puts, holds_reply, ArePuts, IsOther, MakesPuts}
+use Rattle.path_walk.specs.Sound.{IsLookedAt, WritesChange, IsSoundEntry, kept_value}
 use Rattle.std.specs.FinMap.{get}
 use Rattle.conflict_sets.specs.Reads as bytes
 use Rattle.conflict_sets.specs.declared.sets.WriteSet.{WriteSet}
@@ -152,6 +152,15 @@ sound_keeps_good C e rows asc sound good agrees = let made = sound.acts rows goo
 pub absent_changes : (S : TypedRows) (k : Key) (v : Value) → lookup S k ≡ None → lookup S k ≢ Some v
 absent_changes S k v none e = let stands : None ≡ Some v = sym none ∙ e in cc
 
+-- what is put at a key that was looked at is another value
+other_changes : (S : TypedRows) (k : Key) (v : Option Value) → IsLookedAt k → IsOther S k v → lookup S k ≢ v
+other_changes S (keys.Alloc server) v looked other = other
+other_changes S (keys.Dent parent name) v looked other = other
+other_changes S (keys.Gc id) v looked other = other
+other_changes S (keys.Idem client) v looked other = other
+other_changes S (keys.Inode id) v looked other = other
+other_changes S (keys.Session inode client number) v looked other = absurd looked
+
 not_own : (client : ClientId) (key : Key) → holds_reply key ≡ false → keys.Idem client ≢ key
 not_own client key other e = let same : true ≡ false = ap holds_reply e ∙ other in cc
 
@@ -179,8 +188,10 @@ module _ (C : Settings) (reads : ReadSet) where
       (λ o. puts_change puts h.1 key looked valid v (elsewhere (ap is_eq o)) rows T asc tree agrees e)
       (λ o.
       let change = h.0.changes tree.0 tree.2 (record { rows = rows; ascending = asc; spells = tree.1; agrees = agrees }) in
-      write_changes rows tree.0 put.0 put.1 tree.1 h.0.valid change.0 change.1
-      (ap (value_at_key rows) (sym (key_exact (spelled_key key) (spelled_key put.0) o)) ∙ (e ∙ sym (some_same value v (sym (ap by_case (ap is_eq o)) ∙ at)))))
+      let same : spelled_key key ≡ spelled_key put.0 = key_exact (spelled_key key) (spelled_key put.0) o in
+      let one : key ≡ put.0 = one_key_each key put.0 (spellable key valid) (spellable put.0 h.0.valid) same in
+      write_changes rows tree.0 put.0 put.1 tree.1 h.0.valid change.0 (other_changes tree.0 put.0 put.1 (subst IsLookedAt one looked) change.1)
+      (ap (value_at_key rows) (sym same) ∙ (e ∙ sym (some_same value v (sym (ap by_case (ap is_eq o)) ∙ at)))))
       (λ o. puts_change puts h.1 key looked valid v (elsewhere (ap is_eq o)) rows T asc tree agrees e)
     where
       value : Option (List ℕ)

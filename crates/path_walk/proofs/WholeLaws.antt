@@ -110,9 +110,9 @@ whole_update C q f reads writes reply update same sound before client range S go
 
 -- ---- what an update reads
 
-by_kept : (C : Settings) (T : Tree) (q : Request) → is_query q.call ≡ false → footprint C T q ≡ OneKey (keys.Idem q.client) ∷ if_new (get T.kept q.client.0) q.number (call_areas C T q.server q.call)
+by_kept : (C : Settings) (T : Tree) (q : Request) → is_query q.call ≡ false → footprint C T q ≡ OneKey (keys.Idem q.client) ∷ if_new (get T.kept q.client.0) q.number (call_areas C T q q.call)
 by_kept C T q update =
-    let areas : List Area = call_areas C T q.server q.call in
+    let areas : List Area = call_areas C T q q.call in
     ap (λ b. cond b areas (OneKey (keys.Idem q.client) ∷ if_new (get T.kept q.client.0) q.number areas)) update
 
 newer : (o : Option KeptReply) (number : ℕ) (areas : List Area) → MatchOption o ⊤ (λ kept. kept.number < number) → if_new o number areas ≡ areas
@@ -120,18 +120,18 @@ newer None number areas before = refl
 newer (Some kept) number areas before = ap (λ b. cond b areas []) (lt-ltb kept.number number before)
 
 -- after its client's kept reply, where that is earlier, what the call reads
-pub update_reads : (C : Settings) (q : Request) (reads : ReadSet) → is_query q.call ≡ false → IsKeptBefore reads q → IsKeyRead reads (keys.Idem q.client) → KeepsAreas C (λ T. footprint C T q) (λ T. call_areas C T q.server q.call) reads
+pub update_reads : (C : Settings) (q : Request) (reads : ReadSet) → is_query q.call ≡ false → IsKeptBefore reads q → IsKeyRead reads (keys.Idem q.client) → KeepsAreas C (λ T. footprint C T q) (λ T. call_areas C T q q.call) reads
 update_reads C q reads update before read S good agrees = (
   OneKey (keys.Idem q.client) ∷ [],
   (read, tt),
-  by_kept C (tree_of S) q update ∙ ap (λ (l : List Area). OneKey (keys.Idem q.client) ∷ l) (newer (get (tree_of S).kept q.client.0) q.number (call_areas C (tree_of S) q.server q.call) (kept_in S q (before S agrees))),
+  by_kept C (tree_of S) q update ∙ ap (λ (l : List Area). OneKey (keys.Idem q.client) ∷ l) (newer (get (tree_of S).kept q.client.0) q.number (call_areas C (tree_of S) q q.call) (kept_in S q (before S agrees))),
 )
 
 -- and nothing more where it isn't
 pub kept_reads_all : (C : Settings) (q : Request) (reads : ReadSet) (row : KeptRow) → is_query q.call ≡ false → ((S : TypedRows) → Agrees S reads → get S.kept q.client.0 ≡ Some row) → q.number ≤ row.number → IsKeyRead reads (keys.Idem q.client)
     → HasRead C (λ T. footprint C T q) reads
 kept_reads_all C q reads row update is late read S good agrees =
-    let areas : List Area = call_areas C (tree_of S) q.server q.call in
+    let areas : List Area = call_areas C (tree_of S) q q.call in
     subst (AreRead reads)
     (sym (by_kept C (tree_of S) q update ∙ ap (λ (o : Option KeptReply). OneKey (keys.Idem q.client) ∷ if_new o q.number areas) (kept_is S q.client.0 (Some row) (is S agrees)) ∙ ap (λ b. OneKey (keys.Idem q.client) ∷ cond b areas []) (le-ltb row.number q.number late)))
     (read, tt)

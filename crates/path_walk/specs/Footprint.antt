@@ -6,7 +6,9 @@ use Rattle.fs_base.specs.declared.call.Call.{Call}
 use Rattle.fs_base.specs.declared.call.Call.TheVariants as calls
 use Rattle.fs_base.specs.declared.call.Place.{Place}
 use Rattle.fs_base.specs.declared.call.Request.{Request}
+use Rattle.fs_base.specs.declared.call.Session.{Session}
 use Rattle.fs_base.specs.declared.code.Code.{Code}
+use Rattle.fs_base.specs.declared.ids.ClientId.{ClientId}
 use Rattle.fs_base.specs.declared.kind.Kind.{Kind}
 use Rattle.fs_base.specs.declared.kind.Kind.TheVariants as kinds
 use Rattle.fs_base.specs.declared.path.Path.{Path}
@@ -193,23 +195,44 @@ renamed_at T to (AtParent dir name) =
     OneKey (keys.Dent dir name) ∷ if_taken (get T.entries (dir, name)) (carried T to)
 renamed_at T to _ = []
 
+-- ---- write sessions
+
+-- a directory isn't opened
+abbrev pub file_at : Walked → List Area
+file_at (At id kinds.File) = OneKey (keys.Inode id) ∷ []
+file_at _ = []
+
+abbrev pub if_open : Option (Unit {0}) → List Area → List Area
+if_open None areas = []
+if_open (Some it) areas = areas
+
+-- the caller's session, and the inode of its file; number 0 is asked for as any other, and no row has it
+abbrev pub session_areas : Tree → ClientId → Session → List Area
+session_areas T client s =
+    OneKey (keys.Session s.inode client s.number)
+    ∷ if_open (get T.writers (s.inode, (client.0, s.number))) (OneKey (keys.Inode s.inode) ∷ [])
+
 -- ---- the calls
 
-abbrev pub call_areas : Settings → Tree → ℕ → Call → List Area
-call_areas C T server (calls.Lookup place) = along T place NoFollow None nothing_at
-call_areas C T server (calls.Stat place) = along T place Follow None inode_at
-call_areas C T server (calls.List place) = along T place Follow None entries_at
-call_areas C T server (calls.Readlink place) = along T place NoFollow None link_at
-call_areas C T server (calls.Mkdir place mode layout) = makes C T server place (new_dir mode layout)
-call_areas C T server (calls.Create place mode layout) = makes C T server place (new_file mode layout)
-call_areas C T server (calls.Symlink place target) = makes C T server place (new_link target)
-call_areas C T server (calls.Setattr place changes) = along T place Follow None inode_at
-call_areas C T server (calls.Link from to) =
+abbrev pub call_areas : Settings → Tree → Request → Call → List Area
+call_areas C T q (calls.Lookup place) = along T place NoFollow None nothing_at
+call_areas C T q (calls.Stat place) = along T place Follow None inode_at
+call_areas C T q (calls.List place) = along T place Follow None entries_at
+call_areas C T q (calls.Readlink place) = along T place NoFollow None link_at
+call_areas C T q (calls.Mkdir place mode layout) = makes C T q.server place (new_dir mode layout)
+call_areas C T q (calls.Create place mode layout) = makes C T q.server place (new_file mode layout)
+call_areas C T q (calls.Symlink place target) = makes C T q.server place (new_link target)
+call_areas C T q (calls.Setattr place changes) = along T place Follow None inode_at
+call_areas C T q (calls.Link from to) =
     along T from NoFollow (refusal (path_of to.text)) (joined_at T to)
-call_areas C T server (calls.Unlink place) = along T place Parent None (unlinked_at T)
-call_areas C T server (calls.Rmdir place) = along T place Parent None (emptied_at T)
-call_areas C T server (calls.Rename from to) = along T from Parent (move_fault from to) (renamed_at T to)
-call_areas C T server _ = []
+call_areas C T q (calls.Unlink place) = along T place Parent None (unlinked_at T)
+call_areas C T q (calls.Rmdir place) = along T place Parent None (emptied_at T)
+call_areas C T q (calls.Rename from to) = along T from Parent (move_fault from to) (renamed_at T to)
+call_areas C T q (calls.Openr place) = along T place Follow None file_at
+call_areas C T q (calls.Open place) = along T place Follow None file_at
+call_areas C T q (calls.Fstat session) = session_areas T q.client session
+call_areas C T q (calls.Extend session place) = session_areas T q.client session
+call_areas C T q _ = []
 
 -- a kept reply whose number isn't smaller decides
 abbrev pub if_new : Option KeptReply → ℕ → List Area → List Area
@@ -220,6 +243,6 @@ if_new (Some kept) number areas = if nat_lt kept.number number then areas else [
 abbrev pub footprint : Settings → Tree → Request → List Area
 footprint C T q =
     if is_query q.call
-    then call_areas C T q.server q.call
+    then call_areas C T q q.call
     else OneKey (keys.Idem q.client)
-    ∷ if_new (get T.kept q.client.0) q.number (call_areas C T q.server q.call)
+    ∷ if_new (get T.kept q.client.0) q.number (call_areas C T q q.call)

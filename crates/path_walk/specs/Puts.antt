@@ -32,13 +32,18 @@ abbrev pub holds_reply : Key → Bool
 holds_reply (keys.Idem client) = true
 holds_reply key = false
 
+-- another value than stands at the key; a session's row may be put without a look at it
+abbrev pub IsOther : TypedRows → Key → Option Value → Type 0
+IsOther S (keys.Session inode client number) value = Unit {0}
+IsOther S key value = lookup S key ≢ value
+
 -- a valid key of no kept reply; in all well-formed rows that agree with the reads, a value that it may have
 -- and hasn't yet
 pub record IsPut (C : Settings) (reads : ReadSet) (key : Key) (value : Option Value) : Type 0 where
   pub valid : IsValidKey key
   pub no_kept : holds_reply key ≡ false
   pub changes : (S : TypedRows) → IsWellFormed C S → Agrees S reads → IsValueOf key value
-      × (lookup S key ≢ value)
+      × IsOther S key value
 
 abbrev pub ArePuts : Settings → ReadSet → List (Key × Option Value) → Type 0
 ArePuts C reads [] = Unit {0}

@@ -7,16 +7,17 @@ use Rattle.conflict_sets.specs.declared.sets.ReadSet.{ReadSet}
 use Rattle.fs_base.specs.declared.ids.ClientId.{ClientId}
 use Rattle.inode_record.specs.Inode.{inode_of}
 use Rattle.inode_record.specs.declared.inode.InodeRow.{InodeRow}
-use Rattle.key_schema.specs.Keys.{spelled_key}
+use Rattle.key_schema.specs.Keys.{spelled_key, IsSpellable}
 use Rattle.key_schema.specs.declared.key.Key.TheVariants as keys
-use Rattle.row_records.specs.Rows.{dent_of, kept_of, alloc_of}
+use Rattle.row_records.specs.Rows.{dent_of, session_of, kept_of, alloc_of}
 use Rattle.row_records.specs.declared.rows.AllocRow.{AllocRow}
 use Rattle.row_records.specs.declared.rows.DentRow.{DentRow}
 use Rattle.row_records.specs.declared.rows.KeptRow.{KeptRow}
+use Rattle.row_records.specs.declared.rows.SessionRow.{SessionRow}
 use Rattle.row_tree.specs.TypedRows.{TypedRows}
-use Rattle.row_tree.specs.Values.{Value, InodeValue, DentValue, KeptValue, AllocValue, spelled_value}
-use Rattle.row_tree.proofs.OneValue.{inodes, dents, kepts, allocs}
-use Rattle.row_tree.proofs.Putting.{no_inode, no_dent, no_kept, no_alloc}
+use Rattle.row_tree.specs.Values.{Value, InodeValue, DentValue, SessionValue, KeptValue, AllocValue, spelled_value}
+use Rattle.row_tree.proofs.OneValue.{inodes, dents, sessions, kepts, allocs}
+use Rattle.row_tree.proofs.Putting.{no_inode, no_dent, no_session, no_kept, no_alloc}
 use Rattle.txn_task.specs.Agreeing.{Agrees}
 use Rattle.txn_task.specs.Wanted.{IsReading}
 use Rattle.txn_task.specs.Writes.{read_of}
@@ -93,3 +94,21 @@ kept_there reads client b row fits is read S a =
     inner : (o : Option KeptRow) → option_map KeptValue o ≡ Some (KeptValue row) → o ≡ Some row
     inner None e = absurd (cc)
     inner (Some x) e = cc
+
+-- ---- write sessions
+module _ (reads : ReadSet) (file : ℕ) (client : ClientId) (number : ℕ) (fits : IsSpellable (keys.Session file client number)) where
+  pub session_absent : read_of reads.keys (spelled_key (keys.Session file client number)) ≡ Some None → (S : TypedRows) → Agrees S reads → get S.sessions (file, (client.0, number)) ≡ None
+  session_absent is S a = mapped_none SessionValue (get S.sessions (file, (client.0, number))) (told_absent S reads (keys.Session file client number) a fits is)
+
+  pub session_never : (b : List ℕ) → read_of reads.keys (spelled_key (keys.Session file client number)) ≡ Some (Some b) → IsReading (session_of b) None → (S : TypedRows) → Agrees S reads → get S.sessions (file, (client.0, number)) ≡ None
+  session_never b is bad S a = absurd (told_never S reads (keys.Session file client number) b a fits is (no_session file client number b bad.0 bad.1))
+
+  pub session_there : (b : List ℕ) (row : SessionRow) → read_of reads.keys (spelled_key (keys.Session file client number)) ≡ Some (Some b) → session_of b ≡ Ok row → (S : TypedRows) → Agrees S reads → get S.sessions (file, (client.0, number)) ≡ Some row.stamp
+  unfolding spelled_value
+  session_there b row is read S a =
+      let exact = sessions.exact b row read in
+      inner (get S.sessions (file, (client.0, number))) (told_there S reads (keys.Session file client number) (SessionValue row.stamp) a fits (is ∙ ap (λ x. Some (Some x)) exact.1) (refl, exact.0))
+    where
+      inner : (o : Option ℕ) → option_map SessionValue o ≡ Some (SessionValue row.stamp) → o ≡ Some row.stamp
+      inner None e = absurd (cc)
+      inner (Some x) e = cc

@@ -28,7 +28,7 @@ pub enum Want<T> {
     There(T),
 }
 
-fn kept_at<'a>(alloc: Global, txn: &'a Txn, key: &Key) -> Result<Option<Option<&'a [u8]>>, Memory>
+pub(crate) fn kept_at<'a>(alloc: Global, txn: &'a Txn, key: &Key) -> Result<Option<Option<&'a [u8]>>, Memory>
     ensures { IfOk result
         (λ kept. option_map (option_map (λ v. v.now)) kept ≡ read_of txn.now.reads.keys (spelled_key key.now)) }
 {
