@@ -7,7 +7,8 @@ use Rattle.fs_base.specs.declared.ids.ClientId.{ClientId}
 use Rattle.fs_base.specs.declared.layout.Layout.{Layout}
 use Rattle.fs_base.specs.declared.kind.Kind.{Kind}
 use Rattle.fs_base.specs.declared.kind.Kind.TheVariants as kinds
-use Rattle.fs_base.specs.declared.limits.TheConstants.{CHAINS, CHUNK_BYTES, INODE_IDS, MODES, TIMES}
+use Rattle.fs_base.specs.declared.limits.TheConstants.{CHAINS, CHUNK_BYTES, FILE_BYTES, INODE_IDS, MODES}
+use Rattle.fs_base.specs.declared.limits.TheConstants.{TIMES}
 use Rattle.byte_fields.specs.Forms.{Form, front, nothing, followed, paired, seen, shaped, tested, one_field, sized, Arm, arm, Tagged, tagged, choice}
 
 -- numbers of 1, 2, 4 and 8 bytes, the lowest byte first
@@ -44,7 +45,7 @@ time = within number_8 0 (TIMES - 1)
 
 -- a place in a file, or its length: at most the greatest one
 unfoldable pub file_size : Form ℕ
-file_size = within number_8 0 (2 ^ 40)
+file_size = within number_8 0 FILE_BYTES
 
 -- a chunk's size in bytes
 unfoldable pub chunk : Form ℕ
@@ -52,7 +53,7 @@ chunk = within number_4 1 CHUNK_BYTES
 
 -- how many chains a file is striped over
 unfoldable pub stripe : Form ℕ
-stripe = within number_2 1 256
+stripe = within number_2 1 CHAINS
 
 -- a layout by its four numbers
 abbrev pub layout_of : Form ℕ → Form ℕ → Form ℕ → Form ℕ → Form Layout

@@ -5,7 +5,7 @@ ghost use Rattle.byte_fields.specs.Fields.{version, number_1, number_2, number_4
 ghost use Rattle.byte_fields.specs.Outcome.{left_of, place_of, NeedsNoMemory};
 
 use crate::error::{FieldError, RowError};
-use fs_base::limits::{CHAINS, CHUNK_BYTES, INODE_IDS, MODES, TIMES};
+use fs_base::limits::{CHAINS, CHUNK_BYTES, FILE_BYTES, INODE_IDS, MODES, TIMES};
 use fs_base::{ClientId, InodeId, Kind, Layout, Path, PathError, Text};
 use std::alloc::Global;
 use std::marker::Model;
@@ -196,7 +196,7 @@ impl<'a> Cursor<'a> {
         ensures gives { Gives left_of (λ n. (n, self.new)) result (file_size.reads self.old) }
         ensures memory { NeedsNoMemory left_of result }
     {
-        self.u64_within(0, 1 << 40)
+        self.u64_within(0, FILE_BYTES)
     }
 
     /// A chunk's size in bytes, 1 to 4,194,304.
@@ -214,7 +214,7 @@ impl<'a> Cursor<'a> {
         ensures gives { Gives left_of (λ n. (n, self.new)) result (stripe.reads self.old) }
         ensures memory { NeedsNoMemory left_of result }
     {
-        self.u16_within(1, 256)
+        self.u16_within(1, CHAINS)
     }
 
     /// A file's layout.

@@ -93,7 +93,7 @@ impl Config {
     pub fn servers(&self) -> u8
         ensures value { result ≡ self.now.servers }
         ensures from { 1 ≤ result }
-        ensures to { result ≤ 16 }
+        ensures to { result ≤ SERVERS }
     {
         self.servers
     }
@@ -101,7 +101,7 @@ impl Config {
     pub fn nodes(&self) -> u8
         ensures value { result ≡ self.now.nodes }
         ensures from { 1 ≤ result }
-        ensures to { result ≤ 16 }
+        ensures to { result ≤ NODES }
     {
         self.nodes
     }
@@ -109,7 +109,7 @@ impl Config {
     pub fn chains(&self) -> u16
         ensures value { result ≡ self.now.chains }
         ensures from { 1 ≤ result }
-        ensures to { result ≤ 256 }
+        ensures to { result ≤ CHAINS }
     {
         self.chains
     }
@@ -117,7 +117,7 @@ impl Config {
     pub fn chunk(&self) -> u32
         ensures value { result ≡ self.now.chunk }
         ensures from { 1 ≤ result }
-        ensures to { result ≤ 4194304 }
+        ensures to { result ≤ CHUNK_BYTES }
     {
         self.chunk
     }

@@ -1,4 +1,4 @@
-ghost use Rattle.std.specs.Prelude.{◌≡◌, ◌<◌, ◌^◌, ◌↔◌, IsSome, IfSome};
+ghost use Rattle.std.specs.Prelude.{◌≡◌, ◌<◌, ◌↔◌, IsSome, IfSome};
 
 use crate::limits::INODE_IDS;
 use std::marker::Model;
@@ -10,13 +10,14 @@ pub struct InodeId {
 }
 
 impl Model for InodeId {
-    ghost use Rattle.std.specs.Prelude.{ℕ, ◌<◌, ◌^◌};
+    ghost use Rattle.std.specs.Prelude.{ℕ, ◌<◌};
+    ghost use Rattle.fs_base.specs.declared.limits.TheConstants.{INODE_IDS};
 
     ghost Value = { ℕ };
 
     ghost view = { λ i. i.value };
 
-    ghost invariant = { λ i. i.value < 2 ^ 36 };
+    ghost invariant = { λ i. i.value < INODE_IDS };
 
     ghost inverse = { λ n. record { value = n } };
 }

@@ -18,6 +18,8 @@ pub const CHAINS: u16 = 256;
 pub const CHUNK_BYTES: u32 = 4_194_304;
 /// Bytes of a file: 1 TiB.
 pub const FILE_BYTES: u64 = 1_099_511_627_776;
+/// Bytes that one write or read speaks of: 16 MiB.
+pub const SPAN_BYTES: u64 = 16_777_216;
 /// Pieces that one write or read is cut into.
 pub const PIECES: usize = 65_536;
 

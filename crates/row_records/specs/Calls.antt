@@ -3,6 +3,7 @@ use Rattle.std.specs.Prelude.{ℕ, List, [], ◌∷◌, Bool, true, nat_lt, Opti
 use Rattle.fs_base.specs.declared.call.Call.{Call}
 use Rattle.fs_base.specs.declared.call.Call.TheVariants as calls
 use Rattle.fs_base.specs.declared.call.Changes.{Changes}
+use Rattle.fs_base.specs.declared.limits.TheConstants.{SPAN_BYTES}
 use Rattle.fs_base.specs.declared.call.Place.{Place}
 use Rattle.fs_base.specs.declared.call.Session.{Session}
 use Rattle.fs_base.specs.declared.ids.ClientId.{ClientId}
@@ -44,7 +45,7 @@ clients = listed number_8 client ascends
 
 -- offset and length of a write or read
 unfoldable pub span : Form (ℕ × ℕ)
-span = paired file_size (within number_8 1 16777216)
+span = paired file_size (within number_8 1 SPAN_BYTES)
 
 -- by call; that the arms, by tag, are the same table is proved (`calls_are_spelled`)
 abbrev pub written_call : Call → Tagged

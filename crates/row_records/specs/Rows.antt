@@ -1,5 +1,6 @@
 -- The bytes of the other rows.
 use Rattle.std.specs.Prelude.{ℕ, ◌-◌, ◌^◌, List, [], ◌∷◌, Bool, Result}
+use Rattle.fs_base.specs.declared.limits.TheConstants.{LAST_NUMBER}
 use Rattle.byte_fields.specs.Forms.{Form, nothing, paired, shaped, Arm, arm, Tagged, tagged, choice, whole}
 use Rattle.byte_fields.specs.Fields.{within, number_1, number_8, inode_id, time, kind, used_layout, versioned}
 use Rattle.row_records.specs.declared.rows.AllocRow.{AllocRow}
@@ -28,7 +29,7 @@ kept =
 
 -- a server's next inode number
 unfoldable pub alloc_row : Form AllocRow
-alloc_row = versioned (shaped (within number_8 1 4294967295) (λ n. record { next = n }) (λ r. r.next))
+alloc_row = versioned (shaped (within number_8 1 LAST_NUMBER) (λ n. record { next = n }) (λ r. r.next))
 
 -- a file that is being deleted: 0 while its node is there, 1 with its layout once it is gone
 abbrev pub written_gc : GcRow → Tagged

@@ -8,6 +8,7 @@ ghost use Rattle.row_records.specs.Calls.{place, session, default_layout, change
 ghost use Rattle.row_records.specs.Replies.{identity, ownership, three_times, attributes, told_layout, file_info, adopted, phase, limit};
 
 use byte_fields::{Cursor, FieldError, Writer};
+use fs_base::limits::SPAN_BYTES;
 use fs_base::{
     Attributes, Changes, DefaultLayout, DeletionPhase, FileInfo, InodeId, Kind, Layout, Limit,
     Memory, Place, Session,
@@ -207,7 +208,7 @@ pub(crate) fn span(cursor: &mut Cursor) -> Result<(u64, u64), FieldError>
     ensures { Gives left_of (λ s. (s, cursor.new)) result (span.reads cursor.old) }
 {
     let offset = cursor.file_size()?;
-    let len = cursor.u64_within(1, 16_777_216)?;
+    let len = cursor.u64_within(1, SPAN_BYTES)?;
     Ok((offset, len))
 }
 

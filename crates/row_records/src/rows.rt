@@ -6,6 +6,7 @@ ghost use Rattle.row_records.specs.Rows.{dent, session_row, kept, alloc_row, by_
 use crate::reply_reading::reply;
 use crate::reply_writing::put_reply;
 use byte_fields::{Cursor, FieldError, RowError, Writer};
+use fs_base::limits::LAST_NUMBER;
 use fs_base::{InodeId, Kind, Layout, Memory, Reply};
 use std::alloc::Global;
 
@@ -175,7 +176,7 @@ fn next(cursor: &mut Cursor) -> Result<AllocRow, FieldError>
     ensures memory { NeedsNoMemory left_of result }
 {
     cursor.version()?;
-    let next = cursor.u64_within(1, 4_294_967_295)?;
+    let next = cursor.u64_within(1, u64::from(LAST_NUMBER))?;
     Ok(AllocRow { next })
 }
 

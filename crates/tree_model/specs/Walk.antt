@@ -4,6 +4,7 @@ use Rattle.std.specs.FinMap.{get}
 use Rattle.fs_base.specs.declared.code.Code.{Code}
 use Rattle.fs_base.specs.declared.code.Code.TheVariants.{NotFound, NotDir, LinkLoop}
 use Rattle.fs_base.specs.declared.kind.Kind.TheVariants as kinds
+use Rattle.fs_base.specs.declared.limits.TheConstants.{LINKS_FOLLOWED}
 use Rattle.fs_base.specs.declared.path.Path.{Path}
 use Rattle.fs_base.specs.Paths.{path_of}
 use Rattle.tree_model.specs.declared.node.Node.{Node}
@@ -124,8 +125,8 @@ abbrev pub travel : Tree → ℕ → Path → WalkEnd → Trip
 travel T base path end =
     let here = if path.absolute then 0 else base in
     if looks_at_base here end path.names
-    then visiting (Inode here) (from_base (get T.nodes here) (walk 10 T end path.names here))
-    else walk 10 T end path.names here
+    then visiting (Inode here) (from_base (get T.nodes here) (walk LINKS_FOLLOWED T end path.names here))
+    else walk LINKS_FOLLOWED T end path.names here
 
 abbrev pub resolve : Tree → ℕ → Path → WalkEnd → Walked
 resolve T base path end = (travel T base path end).end
