@@ -6,6 +6,7 @@ use Rattle.fs_base.specs.Config.{Settings, admits}
 use Rattle.fs_base.specs.declared.kind.Kind.{Kind}
 use Rattle.fs_base.specs.declared.kind.Kind.TheVariants as kinds
 use Rattle.fs_base.specs.declared.layout.Layout.{Layout}
+use Rattle.fs_base.specs.declared.limits.TheConstants.{SERVERS}
 use Rattle.inode_record.specs.declared.inode.InodePart.{InodePart}
 use Rattle.inode_record.specs.declared.inode.InodePart.TheVariants as parts
 use Rattle.inode_record.specs.declared.inode.InodeRow.{InodeRow}
@@ -129,7 +130,7 @@ abbrev pub session_test : TypedRows → Bool
 session_test S = all_pass (λ (key : ℕ × (ℕ × ℕ)) (stamp : ℕ). has_kind S key.0 kinds.File) S.sessions
 
 abbrev pub number_test : ℕ → ℕ → Bool
-number_test server next = nat_le 1 next && (nat_lt next 4294967296 && nat_lt server 16)
+number_test server next = nat_le 1 next && (nat_lt next 4294967296 && nat_lt server SERVERS)
 
 abbrev pub numbers_test : TypedRows → Bool
 numbers_test S = all_pass number_test S.next

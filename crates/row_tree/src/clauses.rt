@@ -4,6 +4,7 @@ ghost use Rattle.row_tree.specs.TypedRows.{parent_at};
 ghost use Rattle.row_tree.specs.Deciding.{some_passes, names_root, is_root_row, is_waiting, counts_fit, is_layout, is_used, fits_config, is_inside, is_entry, is_unlinked_file, is_doomed, number_test};
 
 use crate::typed::{TypedRows, is_kind, kind_of};
+use fs_base::limits::SERVERS;
 use fs_base::{Config, DefaultLayout, Kind, Layout};
 use inode_record::{InodePart, InodeRow};
 use row_records::{DentRow, GcRow};
@@ -72,7 +73,7 @@ pub(crate) fn fits_config(config: &Config, id: u64, part: &InodePart) -> bool
 pub(crate) fn is_number(server: u64, next: u32) -> bool
     ensures { result ≡ number_test server next }
 {
-    1 <= next && server < 16
+    1 <= next && server < u64::from(SERVERS)
 }
 
 impl TypedRows {
