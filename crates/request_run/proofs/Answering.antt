@@ -1,11 +1,10 @@
 -- What the store answers, over the entries alone.
-use Rattle.std.proofs.Common.{◌≡◌, ◌⊎◌, ℕ, zero, suc, List, [], ◌∷◌, inl, inr, Option, Some, None, true, false, length, sym, ap, subst, ◌∙◌}
-use Rattle.std.specs.Prelude.{slice_get}
+use Rattle.std.proofs.Common.{◌≡◌, ◌⊎◌, ℕ, List, [], ◌∷◌, inl, inr, Option, Some, true, false, length, sym, ap, subst, ◌∙◌}
 use Rattle.std.specs.Ordering.{is_eq}
 use Rattle.std.proofs.lemmas.Bool.{or_cases}
 use Rattle.conflict_sets.specs.Held.{is_written_key}
 use Rattle.conflict_sets.specs.Keys.{key_cmp}
-use Rattle.conflict_sets.specs.Rows.{value_at_key, rows_between, with_writes}
+use Rattle.conflict_sets.specs.Rows.{value_at_key, rows_between}
 use Rattle.conflict_sets.specs.declared.sets.ReadSet.{ReadSet}
 use Rattle.conflict_sets.specs.declared.sets.Write.{Write}
 use Rattle.fs_base.specs.Config.{Settings}
@@ -13,7 +12,7 @@ use Rattle.fs_base.specs.declared.row.Row.{Row}
 use Rattle.key_schema.specs.Keys.{IsKeyOf}
 use Rattle.key_schema.specs.declared.key.Key.{Key}
 use Rattle.kv_store.specs.Causes.{HasCause}
-use Rattle.kv_store.specs.Journal.{first_later, last_writer, rows_at, IsRun}
+use Rattle.kv_store.specs.Journal.{first_later, last_writer, rows_at}
 use Rattle.kv_store.specs.Later.{IsFirst}
 use Rattle.kv_store.specs.Store.{Store}
 use Rattle.kv_store.specs.declared.store.CommitError.{CommitError}
@@ -21,16 +20,16 @@ use Rattle.kv_store.specs.declared.store.CommitError.TheVariants as errors
 use Rattle.kv_store.proofs.HoldLemmas.{same_key}
 use Rattle.kv_store.proofs.LaterLemmas.{first_later_first}
 use Rattle.meta_task.specs.declared.entry.MetaEntry.{MetaEntry}
-use Rattle.path_walk.specs.Sound.{IsSoundEntry}
-use Rattle.row_tree.specs.Opening.{opening_bytes}
 use Rattle.txn_task.specs.Agreeing.{HaveValidKeys}
 use Rattle.txn_task.specs.declared.messages.Ask.{Ask}
 use Rattle.txn_task.specs.declared.messages.Ask.TheVariants as asks
 use Rattle.txn_task.specs.declared.messages.Entry.{Entry}
-use Rattle.run_record.specs.Legal.{journal_rows, reads_of, writes_of}
+use Rattle.run_record.proofs.History.{entry_sound}
+use Rattle.run_record.specs.Legal.{journal_rows, writes_of}
 use Rattle.request_run.specs.Entries.{entries_of, with_entry}
 use Rattle.request_run.specs.Answered.{IsKeyed}
-use Rattle.request_run.specs.Sound.{IsOpen, IsSoundJournal}
+use Rattle.run_record.specs.Sound.{IsSoundJournal}
+use Rattle.request_run.specs.Sound.{IsOpen}
 use Rattle.request_run.proofs.Rows.{length_entries, later_same, rows_same, writer_same}
 
 -- the rows at a version
@@ -61,17 +60,12 @@ written_is_valid (write ∷ writes) key valid is =
       | inr later ↦ written_is_valid writes key valid.1 later
     ]
 
-sound_at : (C : Settings) (rows : List Row) (journal : List Entry) (place : ℕ) (entry : Entry) → IsRun reads_of writes_of (IsSoundEntry C) rows journal → slice_get journal place ≡ Some entry → IsSoundEntry C entry
-sound_at C rows [] place entry run at = absurd (let k : None ≡ Some entry = at in cc)
-sound_at C rows (first ∷ journal) zero entry run at = let same : first ≡ entry = cc in subst (λ (e : Entry). IsSoundEntry C e) same run.0
-sound_at C rows (first ∷ journal) (suc place) entry run at = sound_at C (with_writes rows first.writes.writes) journal place entry run.2 at
-
 pub conflict_keyed : (C : Settings) (journal : List Entry) (snapshot : ℕ) (reads : ReadSet) (version : ℕ) (key : List ℕ) → IsSoundJournal C journal → first_later writes_of journal snapshot reads ≡ Some (version, key) → (k : Key) × IsKeyOf key k
 conflict_keyed C journal snapshot reads version key sound is =
     let found : IsFirst writes_of journal snapshot reads (Some (version, key)) =
     subst (λ (o : Option (ℕ × List ℕ)). IsFirst writes_of journal snapshot reads o) is
     (first_later_first writes_of journal snapshot reads) in
-    written_is_valid found.entry.writes.writes key (sound_at C (opening_bytes C) journal found.place found.entry sound.run found.there).valid found.least.written
+    written_is_valid found.entry.writes.writes key (entry_sound C journal sound found.place found.entry found.there).0.valid found.least.written
 
 pub cause_keyed : (C : Settings) (journal : List Entry) (snapshot : ℕ) (reads : ReadSet) (front : ℕ) (why : CommitError) → IsSoundJournal C journal → HasCause (first_later writes_of journal snapshot reads) front why → IsKeyed why
 cause_keyed C journal snapshot reads front (errors.Conflict version key) sound cause = conflict_keyed C journal snapshot reads version key sound cause

@@ -19,9 +19,9 @@ use Rattle.txn_task.specs.declared.messages.Entry.{Entry}
 use Rattle.run_record.specs.Legal.{journal_rows, tree_at, writes_of}
 use Rattle.run_record.specs.Receipts.{IsWritten, IsConflict}
 use Rattle.request_run.specs.Served.{IsBegun}
-use Rattle.request_run.specs.Sound.{IsSoundJournal}
+use Rattle.run_record.specs.Sound.{IsSoundJournal}
 use Rattle.request_run.proofs.Covered.{held_touched}
-use Rattle.request_run.proofs.History.{rows_ascend, rows_tree}
+use Rattle.run_record.proofs.History.{rows_ascend, rows_tree}
 
 -- a conflict is behind the snapshot
 pub later_above : (journal : List Entry) (snapshot : ℕ) (reads : ReadSet) (version : ℕ) (key : List ℕ) → first_later writes_of journal snapshot reads ≡ Some (version, key) → snapshot < version

@@ -36,7 +36,8 @@ use Rattle.run_record.proofs.Rising.{last_version_above}
 use Rattle.request_run.specs.Answered.{HasKey, IsAnswer, IsExchange, IsSpelled, MayAnswer}
 use Rattle.request_run.specs.Entries.{IsGrowth, entries_of, with_entry}
 use Rattle.request_run.specs.Served.{AreCovered, AreEarlier, CameTo, HasMet, IsBegun, IsCovered, IsOwn, IsPending, IsReady, IsServed, last_version}
-use Rattle.request_run.specs.Sound.{IsOpen, IsSoundJournal}
+use Rattle.run_record.specs.Sound.{IsSoundJournal}
+use Rattle.request_run.specs.Sound.{IsOpen}
 use Rattle.run_record.proofs.OneMore.{AreConflicts-push, last_version-push, version_before-push}
 use Rattle.request_run.proofs.Conflicts.{conflict_named, later_above}
 use Rattle.request_run.proofs.Covered.{KeysAgree-push, RangesAgree-push, covered_key, covered_range}

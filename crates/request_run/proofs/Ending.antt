@@ -41,8 +41,8 @@ use Rattle.run_record.proofs.Rising.{last_version_above}
 use Rattle.run_record.proofs.TreeReplies.{IsTreeReply, accepted_reply, attempts_left, made_reply, may_tell, new_reply, query_reply}
 use Rattle.histories.proofs.Lists.{at_within}
 use Rattle.request_run.specs.Served.{CameTo, EachOf, HasMet, IsBegun, IsOwn, last_version}
-use Rattle.request_run.specs.Sound.{IsSoundJournal}
-use Rattle.request_run.proofs.History.{entry_sound, kept_above, kept_by, once, row_kept, rows_ascend, rows_tree}
+use Rattle.run_record.specs.Sound.{IsSoundJournal}
+use Rattle.run_record.proofs.History.{entry_sound, kept_above, kept_by, once, row_kept, rows_ascend, rows_tree}
 
 -- no entry has the request's client and number
 abbrev pub HasNone : List Entry → Request → Type 0

@@ -4,5 +4,4 @@ pub mod Continuing
 pub mod Covered
 pub mod Ending
 pub mod Growing
-pub mod History
 pub mod Rows

@@ -14,7 +14,8 @@ use Rattle.row_tree.specs.HasTree.{AreWellFormed}
 use Rattle.txn_task.specs.declared.messages.Entry.{Entry}
 use Rattle.run_record.specs.Legal.{reads_of, writes_of}
 use Rattle.request_run.specs.Entries.{entries_of}
-use Rattle.request_run.specs.Sound.{IsSoundJournal, IsOpen}
+use Rattle.run_record.specs.Sound.{IsSoundJournal}
+use Rattle.request_run.specs.Sound.{IsOpen}
 
 -- ---- lists
 

@@ -13,7 +13,8 @@ ghost use Rattle.txn_task.specs.declared.messages.Ask.{Ask};
 ghost use Rattle.txn_task.specs.declared.messages.Entry.{Entry};
 ghost use Rattle.request_run.specs.Answered.{HasKey, IsAnswer, IsKeyed, IsSpelled, MayAnswer, Tells};
 ghost use Rattle.request_run.specs.Entries.{entries_of, with_entry};
-ghost use Rattle.request_run.specs.Sound.{IsOpen, IsSoundJournal};
+ghost use Rattle.run_record.specs.Sound.{IsSoundJournal};
+ghost use Rattle.request_run.specs.Sound.{IsOpen};
 
 use fs_base::limits::JOURNAL_ENTRIES;
 use fs_base::{ClientId, Memory, Text};
@@ -132,7 +133,7 @@ fn commit(store: &mut KvState<MetaEntry>, snapshot: u64, entry: Entry) -> Result
     }
 }
 
-/// A conflict's key from its bytes, which are all that the store knows of it; a receipt holds the key itself.
+/// A conflict's key from its bytes, which are all that the store knows of it; the request is told the key itself.
 fn conflict(alloc: Global, version: u64, bytes: &Text) -> Result<Answer, Memory>
     requires { (key : Key) × IsKeyOf bytes.now key }
     ensures { IfOk result (λ a. (key : Key) × IsKeyOf bytes.now key × (a ≡ answers.Conflict version key)) }

@@ -7,5 +7,6 @@ pub mod Receipts
 pub mod Replies
 pub mod ReplyText
 pub mod Right
+pub mod Sound
 pub mod Touched
 pub mod Words

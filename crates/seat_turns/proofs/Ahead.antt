@@ -14,7 +14,7 @@ use Rattle.seat_turns.specs.Left.{AreAhead, EndsOne, GoesOn, IsAhead, KeepsOther
 use Rattle.seat_turns.specs.Seats.{AllSeats, HaveEnded, scripts_of}
 use Rattle.seat_turns.specs.declared.seats.Seat.{Seat}
 use Rattle.client_core.proofs.Ending.{ended_is, has_ended_by}
-use Rattle.request_run.proofs.History.{at_there}
+use Rattle.run_record.proofs.History.{at_there}
 use Rattle.seat_turns.proofs.Seating.{script_at}
 use Rattle.seat_turns.proofs.Working.{all_done}
 

@@ -21,7 +21,8 @@ use Rattle.run_record.specs.Right.{IsRight, conflicts_in, summary_of}
 use Rattle.run_record.specs.declared.run.Record.{Record}
 use Rattle.request_run.specs.Entries.{IsGrowth, entries_of}
 use Rattle.world_core.specs.Objects.{Done, IsStep, Objects, grown, no_histories}
-use Rattle.request_run.specs.Sound.{IsOpen, IsSoundJournal}
+use Rattle.run_record.specs.Sound.{IsSoundJournal}
+use Rattle.request_run.specs.Sound.{IsOpen}
 use Rattle.seat_turns.specs.Seats.{AreSeated, HaveEnded, receipts_in, scripts_of, seats_of}
 use Rattle.world_core.specs.World.{IsWorld, WorldView, plan_of}
 use Rattle.seat_turns.specs.declared.seats.Seat.{Seat}

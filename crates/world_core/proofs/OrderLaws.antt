@@ -5,7 +5,7 @@ use Rattle.std.proofs.lemmas.Option.{same_Some}
 use Rattle.client_core.specs.declared.plan.Plan.{Plan}
 use Rattle.run_record.specs.declared.run.Record.{Record}
 use Rattle.request_run.specs.Entries.{entries_of}
-use Rattle.request_run.proofs.History.{at_there}
+use Rattle.run_record.proofs.History.{at_there}
 use Rattle.seat_turns.specs.Left.{GoesOn, Stays}
 use Rattle.seat_turns.specs.Seats.{receipts_in}
 use Rattle.seat_turns.specs.declared.seats.Seat.{Seat}

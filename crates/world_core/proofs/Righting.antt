@@ -29,13 +29,13 @@ use Rattle.run_record.proofs.Naming.{naming}
 use Rattle.request_run.specs.Served.{AreCovered}
 use Rattle.seat_turns.specs.Kept.{HasReceipt, IsSeat}
 use Rattle.request_run.specs.Entries.{entries_of}
-use Rattle.request_run.specs.Sound.{IsSoundJournal}
+use Rattle.run_record.specs.Sound.{IsSoundJournal}
 use Rattle.seat_turns.specs.Seats.{AreSeated, HaveEnded, receipts_in, scripts_of}
 use Rattle.world_core.specs.World.{WorldView, plan_of}
 use Rattle.seat_turns.specs.declared.seats.Seat.{Seat}
 use Rattle.request_run.proofs.Covered.{all_touched}
 use Rattle.request_run.proofs.Ending.{no_refusal}
-use Rattle.request_run.proofs.History.{at_there, entry_sound, legal, rows_ascend, rows_tree}
+use Rattle.run_record.proofs.History.{at_there, entry_sound, legal, rows_ascend, rows_tree}
 use Rattle.seat_turns.proofs.Receiving.{names_is}
 use Rattle.seat_turns.proofs.Seating.{one_seat}
 use Rattle.seat_turns.proofs.Working.{unsent}

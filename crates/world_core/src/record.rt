@@ -65,9 +65,8 @@ fn entries(alloc: Global, journal: Items<MetaEntry>) -> Result<Items<Entry>, Mem
     Ok(entries)
 }
 
-/// How many files are being deleted, once all entries are made.
-///
-/// Should their rows come to 2^32 - 1, it would answer want of memory; a journal has 200,000 entries at most.
+/// How many files are being deleted, once all entries are made: no more than there are entries, so one page
+/// has their rows.
 fn waiting_in(store: &KvState<MetaEntry>) -> Result<u64, Memory>
     requires { IsOpen store.now }
     ensures { IfOk result (λ waiting. waiting ≡ waiting_in store.now.config (entries_of store.now.journal)) }
@@ -76,9 +75,6 @@ fn waiting_in(store: &KvState<MetaEntry>) -> Result<u64, Memory>
     let from = [b'G', b'C', b'O', b'L'];
     let to = [b'G', b'C', b'O', b'M'];
     let rows = store.range_at(store.front(), from.as_slice(), to.as_slice(), u32::MAX)?;
-    if rows.len() >= u32::MAX as usize {
-        return Err(Memory);
-    }
     Ok(rows.len() as u64)
 }
 

@@ -1,7 +1,7 @@
 use Rattle.std.proofs.Common.{subst}
 use Rattle.fs_base.specs.Config.{Settings}
 use Rattle.request_run.specs.Entries.{entries_of}
-use Rattle.request_run.specs.Sound.{IsSoundJournal}
+use Rattle.run_record.specs.Sound.{IsSoundJournal}
 use Rattle.request_run.proofs.Continuing.{config_grown, covered_after, growth_of, may_answer, may_take, open_grown, serves}
 use Rattle.request_run.proofs.requests.serve.Goals as goal
 

@@ -42,7 +42,7 @@ use Rattle.txn_task.specs.Writes.{written_at}
 use Rattle.txn_task.specs.declared.messages.Entry.{Entry}
 use Rattle.histories.proofs.Versions.{place_or_end, tree_next}
 use Rattle.run_record.specs.Legal.{AreReplies, applied, EntryAt, IsLegal, IsOnce, journal_rows, reads_of, tree_after, tree_at, writes_of}
-use Rattle.request_run.specs.Sound.{IsSoundJournal}
+use Rattle.run_record.specs.Sound.{IsSoundJournal}
 use Rattle.run_record.proofs.Keeping.{IsNew, kept_as, kept_own, kept_other}
 
 abbrev Run : Settings → List Row → List Entry → Type 0
