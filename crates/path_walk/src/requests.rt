@@ -8,5 +8,8 @@ use tree_model::is_told;
 pub fn is_built(call: &Call) -> bool
     ensures { result ≡ is_built call.now }
 {
-    is_told(call)
+    match call {
+        Call::Openr(_) | Call::Fstat(_) | Call::Open(_) | Call::Extend { .. } => false,
+        _ => is_told(call),
+    }
 }
