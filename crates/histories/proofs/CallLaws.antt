@@ -12,11 +12,14 @@ use Rattle.fs_base.specs.declared.call.Request.{Request}
 use Rattle.fs_base.specs.declared.code.Code.{Code}
 use Rattle.fs_base.specs.declared.code.Code.TheVariants as codes
 use Rattle.fs_base.specs.declared.code.Limit.TheVariants.{Inodes}
+use Rattle.fs_base.specs.declared.ids.ClientId.{ClientId}
 use Rattle.fs_base.specs.declared.kind.Kind.TheVariants as kinds
 use Rattle.fs_base.specs.declared.layout.DefaultLayout.{DefaultLayout}
 use Rattle.fs_base.specs.declared.layout.Layout.{Layout}
 use Rattle.fs_base.specs.declared.path.Path.{Path}
+use Rattle.fs_base.specs.declared.reply.FileInfo.{FileInfo}
 use Rattle.fs_base.specs.declared.reply.Reply.{Reply}
+use Rattle.fs_base.specs.declared.reply.Reply.TheVariants as replies
 use Rattle.fs_base.specs.declared.reply.Reply.TheVariants.{Done, Made, Attr}
 use Rattle.tree_model.specs.declared.kept.Doom.{Doom}
 use Rattle.tree_model.specs.declared.kept.Doom.TheVariants.{Waiting, Purged}
@@ -36,11 +39,14 @@ use Rattle.tree_model.specs.Finding.{at_end, found_of, if_there, on_node, list_a
 use Rattle.tree_model.specs.Linking.{with_link, with_touched, without_dir, without_entry}
 use Rattle.tree_model.specs.Maps.{set}
 use Rattle.tree_model.specs.Moving.{moved, rename}
+use Rattle.tree_model.specs.Sessions.{hint_over, hinted, part_with_hint, with_hint, with_writer}
 use Rattle.tree_model.specs.Tree.{Tree, next_at, node_with}
 use Rattle.tree_model.specs.Walk.{resolve}
+use Rattle.tree_model.proofs.HintLaws.{hint_over_rises}
 use Rattle.tree_model.proofs.LinkingLaws.{link_is, unlink_is, rmdir_is}
 use Rattle.tree_model.proofs.MapLaws.{ids, get-set_same, get-set_cases}
 use Rattle.tree_model.proofs.RenameLaws.{rename_is}
+use Rattle.tree_model.proofs.SessionLaws.{extend_is, fstat_is, open_to_read_is, open_to_write_is}
 use Rattle.histories.specs.Steps.{PartLasts, NodeLasts, IsGivenOut, IsTreeStep, IsLawful}
 use Rattle.histories.proofs.Versions.{node_same, part_same}
 
@@ -99,13 +105,10 @@ owes_readlink T (Stopped code) = tt
 owes_readlink T (AtParent id name) = tt
 owes_readlink T (NoName id) = tt
 
--- a node is changed in its place, and its part stays
-lasts_changed : (T : Tree) (id : ℕ) (node new : Node) → get T.nodes id ≡ Some node → new.part ≡ node.part → (i : ℕ) → NodeLasts (get T.nodes i) (get (insert T.nodes id new) i)
-lasts_changed T id node new is part i = by_cases (get (insert T.nodes id new) i) refl
+-- a node is changed in its place
+lasts_put : (T : Tree) (id : ℕ) (node new : Node) → get T.nodes id ≡ Some node → PartLasts node.part new.part → (i : ℕ) → NodeLasts (get T.nodes i) (get (insert T.nodes id new) i)
+lasts_put T id node new is lasts i = by_cases (get (insert T.nodes id new) i) refl
   where
-    lasts : NodeLasts (Some node) (Some new)
-    lasts = subst (PartLasts node.part) (sym part) (part_same node.part)
-
     by_cases : (o : Option Node) → get (set T.nodes id (Some new)) i ≡ o → NodeLasts (get T.nodes i) (get (insert T.nodes id new) i)
     by_cases o e = elim (get-set_cases ids T.nodes id (Some new) i o e) [
       | inl here ↦
@@ -113,6 +116,10 @@ lasts_changed T id node new is part i = by_cases (get (insert T.nodes id new) i)
           (subst (λ j. NodeLasts (get T.nodes j) (Some new)) (sym here.0) (subst (λ (p : Option Node). NodeLasts p (Some new)) (sym is) lasts))
       | inr other ↦ subst (NodeLasts (get T.nodes i)) (other.1 ∙ sym e) (node_same (get T.nodes i))
     ]
+
+-- and its part stays
+lasts_changed : (T : Tree) (id : ℕ) (node new : Node) → get T.nodes id ≡ Some node → new.part ≡ node.part → (i : ℕ) → NodeLasts (get T.nodes i) (get (insert T.nodes id new) i)
+lasts_changed T id node new is part = lasts_put T id node new is (subst (PartLasts node.part) (sym part) (part_same node.part))
 
 -- a node goes, and the others stay
 lasts_removed : (T : Tree) (id i : ℕ) → NodeLasts (get T.nodes i) (get (remove T.nodes id) i)
@@ -262,6 +269,24 @@ owes_rename T stamp =
     (λ from to id dir name old node is.
     owes_moved T (record (with_touched (without_entry T dir name) stamp old node) { doomed = insert T.doomed old Waiting }) from to id (owes_waiting T stamp dir name old node is))
 
+-- ---- write sessions
+
+owes_opened : (T : Tree) (client : ClientId) (number : ℕ) (file : FileInfo) → Owes T (Makes (with_writer T file.inode client number) (replies.File file))
+owes_opened T client number file = (step_with T (with_writer T file.inode client number) refl (λ id. node_same (get T.nodes id)) (λ i layout hint there. there), refl, λ i layout hint there. there)
+
+-- a file keeps its layout, and its hint doesn't fall
+owes_hinted : (T : Tree) (place id : ℕ) (node : Node) (length truncs : ℕ) (layout : Layout) (hint : ℕ) → get T.nodes id ≡ Some node → node.part ≡ File length truncs layout hint → place < layout.stripe
+    → Owes T (Makes (with_hint T id (hint_over layout.stripe place hint) (get T.nodes id)) (replies.Hint (hint_over layout.stripe place hint)))
+owes_hinted T place id node length truncs layout hint is file within =
+    subst (λ (o : Option Node). Owes T (Makes (with_hint T id (hint_over layout.stripe place hint) o) (replies.Hint (hint_over layout.stripe place hint)))) (sym is) (
+      step_with T (with_hint T id (hint_over layout.stripe place hint) (Some node)) refl (lasts_put T id node (hinted (hint_over layout.stripe place hint) node) is lasts) (λ i layout hint there. there),
+      refl,
+      λ i layout hint there. there,
+    )
+  where
+    lasts : PartLasts node.part (part_with_hint (hint_over layout.stripe place hint) node.part)
+    lasts = subst (λ (p : NodePart). PartLasts p (part_with_hint (hint_over layout.stripe place hint) p)) (sym file) (refl, hint_over_rises layout.stripe place hint within)
+
 -- ---- all of them
 
 pub owes_call : (C : Settings) (T : Tree) (q : Request) (call : Call) → q.server < 16 → Owes T (effect_of C T q call)
@@ -269,6 +294,8 @@ owes_call C T q (calls.Lookup place) known = owes_at_end T place NoFollow (λ wa
 owes_call C T q (calls.Stat place) known = owes_at_end T place Follow (stat_at T) (λ walked. owes_on_node T walked (λ id node. Leaves (Attr (attributes_of T id node))) (λ id node is. tt))
 owes_call C T q (calls.List place) known = owes_at_end T place Follow (list_at T) (owes_list T)
 owes_call C T q (calls.Readlink place) known = owes_at_end T place NoFollow (readlink_at T) (owes_readlink T)
+owes_call C T q (calls.Openr place) known = open_to_read_is (Owes T) T (λ code. tt) (λ file. tt) place
+owes_call C T q (calls.Fstat session) known = fstat_is (Owes T) T (λ code. tt) q.client session (λ file. tt)
 owes_call C T q (calls.Mkdir place mode layout) known = owes_make T q.server known C q.stamp (new_dir mode layout) place
 owes_call C T q (calls.Create place mode layout) known = owes_make T q.server known C q.stamp (new_file mode layout) place
 owes_call C T q (calls.Symlink place target) known = owes_symlink T q.server known C q.stamp place target
@@ -277,6 +304,8 @@ owes_call C T q (calls.Link from to) known = link_is (Owes T) T q.stamp (λ code
 owes_call C T q (calls.Unlink place) known = unlink_is (Owes T) T q.stamp (λ code. tt) (owes_gone T q.stamp) (owes_left T q.stamp) (owes_waiting T q.stamp) place
 owes_call C T q (calls.Rmdir place) known = rmdir_is (Owes T) T q.stamp (λ code. tt) (owes_gone T q.stamp) place
 owes_call C T q (calls.Rename from to) known = owes_rename T q.stamp from to
+owes_call C T q (calls.Open place) known = open_to_write_is (Owes T) T (λ code. tt) q.client q.number (owes_opened T q.client q.number) place
+owes_call C T q (calls.Extend session place) known = extend_is (Owes T) T (λ code. tt) place (owes_hinted T place) q.client session
 owes_call C T q _ known = tt
 
 pub lawful : (C : Settings) → C.servers ≤ 16 → IsLawful C

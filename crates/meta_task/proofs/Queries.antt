@@ -25,6 +25,7 @@ use Rattle.tree_model.specs.Effects.{Effect, Leaves, Makes, Settles, at_length, 
 use Rattle.tree_model.specs.Finding.{at_end, if_there, found_of, stat_at, list_at, readlink_at, target_of}
 use Rattle.tree_model.specs.Tree.{Tree}
 use Rattle.tree_model.specs.Walk.{resolve}
+use Rattle.tree_model.proofs.SessionLaws.{fstat_is, open_to_read_is}
 
 abbrev IsLeaving : Effect → Type 0
 IsLeaving (Leaves reply) = Unit {0}
@@ -78,8 +79,8 @@ leaves C T q (calls.Lookup place) query = ends T place NoFollow (λ walked. Leav
 leaves C T q (calls.Stat place) query = ends T place Follow (stat_at T) (told T)
 leaves C T q (calls.List place) query = ends T place Follow (list_at T) (listed T)
 leaves C T q (calls.Readlink place) query = ends T place NoFollow (readlink_at T) (read T)
-leaves C T q (calls.Openr place) query = tt
-leaves C T q (calls.Fstat session) query = tt
+leaves C T q (calls.Openr place) query = open_to_read_is IsLeaving T (λ code. tt) (λ file. tt) place
+leaves C T q (calls.Fstat session) query = fstat_is IsLeaving T (λ code. tt) q.client session (λ file. tt)
 leaves C T q calls.Doomed query = tt
 leaves C T q call query = absurd (cc)
 

@@ -28,6 +28,7 @@ pub mod Removing
 pub mod Renaming
 pub mod Replacing
 pub mod RowByRow
+pub mod Sessions
 pub mod SpellingLaws
 pub mod Telling
 pub mod Told

@@ -1,5 +1,5 @@
 -- The rows of a new node, and where it may be made.
-use Rattle.std.specs.Prelude.{◌≡◌, ℕ, ◌<◌, ◌≤◌, ◌^◌, List, IsTrue, Some, None}
+use Rattle.std.specs.Prelude.{◌≡◌, ℕ, ◌<◌, ◌≤◌, List, IsTrue, Some, None}
 use Rattle.std.specs.FinMap.{get}
 use Rattle.byte_fields.specs.Fields.{path_text}
 use Rattle.fs_base.specs.Config.{Settings, admits, layout_at}

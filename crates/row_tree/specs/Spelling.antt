@@ -1,5 +1,5 @@
 -- Rows of bytes, and the typed rows that they spell.
-use Rattle.std.specs.Prelude.{◌≡◌, ℕ, ◌<◌, ◌^◌, List, [], ◌∷◌, Option, Some, None}
+use Rattle.std.specs.Prelude.{◌≡◌, ℕ, ◌<◌, List, [], ◌∷◌, Option, Some, None}
 use Rattle.std.specs.Option.{option_map}
 use Rattle.conflict_sets.specs.Rows.{value_at_key}
 use Rattle.fs_base.specs.declared.row.Row.{Row}

@@ -57,6 +57,23 @@ pub record MayChange (C : Settings) (S : TypedRows) (id : ℕ) (old row : InodeR
   pub links : row.links ≡ old.links
   pub fits : FitsConfig C id row.part
 
+-- ---- a file's hint changed
+
+abbrev pub part_hinted : ℕ → InodePart → InodePart
+part_hinted hint (parts.Dir parent chunk stripe) = parts.Dir parent chunk stripe
+part_hinted hint (parts.File length truncs layout old) = parts.File length truncs layout hint
+part_hinted hint (parts.Link target) = parts.Link target
+
+-- no other field changes
+abbrev pub hinted_row : ℕ → InodeRow → InodeRow
+hinted_row hint row = record row { part = part_hinted hint row.part }
+
+-- ---- a session put, by inode, client and number, with the stamp of the open
+
+abbrev pub with_session : TypedRows → ℕ → ℕ → ℕ → ℕ → TypedRows
+with_session S inode client number stamp =
+    record S { sessions = insert S.sessions (inode, (client, number)) stamp }
+
 -- ---- a client's kept reply put
 
 abbrev pub with_kept : TypedRows → ℕ → KeptRow → TypedRows

@@ -29,6 +29,7 @@ use Rattle.tree_model.proofs.ApplyLaws.{apply_new, settle_at}
 use Rattle.tree_model.proofs.LinkingLaws.{link_is, unlink_is, rmdir_is}
 use Rattle.tree_model.proofs.MapLaws.{ids, get-set_same, get-set_other}
 use Rattle.tree_model.proofs.RenameLaws.{rename_is}
+use Rattle.tree_model.proofs.SessionLaws.{extend_is, open_to_write_is}
 
 -- ---- effects
 
@@ -99,6 +100,10 @@ update_keeps C T q (calls.Lookup place) is = absurd (cc)
 update_keeps C T q (calls.Stat place) is = absurd (cc)
 update_keeps C T q (calls.List place) is = absurd (cc)
 update_keeps C T q (calls.Readlink place) is = absurd (cc)
+update_keeps C T q (calls.Open place) is = open_to_write_is (Keeps T) T (λ code. tt) q.client q.number (λ file. refl) place
+update_keeps C T q (calls.Extend session place) is = extend_is (Keeps T) T (λ code. tt) place (λ id node length truncs layout hint at file within. refl) q.client session
+update_keeps C T q (calls.Openr place) is = absurd (cc)
+update_keeps C T q (calls.Fstat session) is = absurd (cc)
 update_keeps C T q _ is = tt
 
 -- ---- a call with a new number

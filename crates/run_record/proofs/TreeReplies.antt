@@ -1,7 +1,8 @@
 -- What the tree replies: neither of conflicts nor of a full journal.
-use Rattle.std.proofs.Common.{◌≡◌, ℕ, zero, suc, ◌+◌, ◌<◌, ◌==◌, Bool, true, false, cond, List, [], ◌∷◌, ◌++◌, sym, ap, subst, ◌∙◌}
+use Rattle.std.proofs.Common.{◌≡◌, ℕ, zero, suc, ◌+◌, ◌<◌, ◌==◌, Bool, true, false, cond, nat_lt, List, [], ◌∷◌, ◌++◌, sym, ap, subst, ◌∙◌}
 use Rattle.std.specs.Prelude.{Option, Some, None, Result, Ok, Err, if◌then◌else◌, unwrap_or, slice_index}
 use Rattle.std.specs.FinMap.{get, insert}
+use Rattle.std.specs.Option.{ok_or}
 use Rattle.fs_base.specs.Config.{Settings}
 use Rattle.fs_base.specs.Gives.{◌>>=◌, each_from}
 use Rattle.fs_base.specs.Names.{is_dot_dot, is_name, name_of}
@@ -9,14 +10,19 @@ use Rattle.fs_base.specs.Paths.{components, is_path_text, name_at, names_of, pat
 use Rattle.fs_base.specs.declared.call.Call.{Call}
 use Rattle.fs_base.specs.declared.call.Call.TheVariants as calls
 use Rattle.fs_base.specs.declared.call.Changes.{Changes}
+use Rattle.fs_base.specs.declared.call.Place.{Place}
 use Rattle.fs_base.specs.declared.call.Request.{Request}
+use Rattle.fs_base.specs.declared.call.Session.{Session}
 use Rattle.fs_base.specs.declared.code.Code.{Code}
 use Rattle.fs_base.specs.declared.code.Code.TheVariants as codes
 use Rattle.fs_base.specs.declared.code.Limit.TheVariants.{Inodes, Links}
+use Rattle.fs_base.specs.declared.ids.ClientId.{ClientId}
 use Rattle.fs_base.specs.declared.kind.Kind.TheVariants as kinds
 use Rattle.fs_base.specs.declared.layout.DefaultLayout.{DefaultLayout}
 use Rattle.fs_base.specs.declared.path.Path.{Path}
+use Rattle.fs_base.specs.declared.reply.FileInfo.{FileInfo}
 use Rattle.fs_base.specs.declared.reply.Reply.{Reply}
+use Rattle.fs_base.specs.declared.reply.Reply.TheVariants as replies
 use Rattle.fs_base.specs.declared.reply.Reply.TheVariants.{Attr, Done, Made, Refused}
 use Rattle.tree_model.specs.declared.new_node.NewNode.{NewNode}
 use Rattle.tree_model.specs.declared.node.Node.{Node}
@@ -34,6 +40,7 @@ use Rattle.tree_model.specs.Finding.{found_of, if_there, list_at, readlink_at, s
 use Rattle.tree_model.specs.Linking.{at_name, is_empty_dir, link_at, link_in, link_to, link_under, rmdir_at, rmdir_entry, rmdir_part, unlink_at, unlink_entry, unlink_part, with_link, without_dir}
 use Rattle.tree_model.specs.Maps.{is_end}
 use Rattle.tree_model.specs.Moving.{moved, dir_over, other_over, move_over, goes_below, move_to, move_in, move_under, move_at, move_entry, rename_at, have_names}
+use Rattle.tree_model.specs.Sessions.{extend_file, file_of, file_there, has_session, hint_over, on_file, opened_at, opened_node, session_file, with_hint, with_writer}
 use Rattle.tree_model.specs.Tree.{Tree, next_at, node_with}
 use Rattle.tree_model.specs.Walk.{Behind, Entry, Inode, Trip, at_entry, at_file, at_node, at_part, down, ends_at, from_base, is_last_of_parent, is_last_unfollowed, looks_at_base, on_target, resolve, stay, visiting, walk}
 use Rattle.tree_model.proofs.ApplyLaws.{IsNewNumber, apply_new, apply_query}
@@ -377,11 +384,64 @@ module _ (T : Tree) (stamp : ℕ) where
   both_named_well false true act h = tt
   both_named_well false false act h = h
 
+-- ---- open, openr, fstat and extend
+
+abbrev FoundWell : Result FileInfo Code → Type 0
+FoundWell (Err code) = IsTreeReply (Refused code)
+FoundWell (Ok file) = Unit {0}
+
+on_file_well : (r : Result FileInfo Code) (act : FileInfo → Effect) → FoundWell r → ((file : FileInfo) → RepliesWell (act file)) → RepliesWell (on_file r act)
+on_file_well (Err code) act w h = w
+on_file_well (Ok file) act w h = h file
+
+file_well : (id : ℕ) (code : Code) → IsTreeReply (Refused code) → (part : NodePart) → FoundWell (ok_or (file_of id part) code)
+file_well id code w (Dir layout) = w
+file_well id code w (File length truncs layout hint) = tt
+file_well id code w (Link target) = w
+
+opened_node_well : (id : ℕ) (o : Option Node) → FoundWell (opened_node id o)
+opened_node_well id None = tt
+opened_node_well id (Some node) = file_well id codes.IsDir tt node.part
+
+opened_well : (T : Tree) (walked : Walked) → EndsWell walked → FoundWell (opened_at T walked)
+opened_well T (At id kinds.Dir) h = tt
+opened_well T (At id kinds.File) h = opened_node_well id (get T.nodes id)
+opened_well T (At id kinds.Link) h = opened_node_well id (get T.nodes id)
+opened_well T (Stopped code) h = h
+opened_well T (AtParent id name) h = tt
+opened_well T (NoName id) h = tt
+
+open_well : (T : Tree) (place : Place) (act : FileInfo → Effect) → ((file : FileInfo) → RepliesWell (act file))
+    → RepliesWell (on_path (path_of place.text) (λ path. on_file (opened_at T (resolve T place.base path Follow)) act))
+open_well T place act h =
+    by_path place.text (λ path. on_file (opened_at T (resolve T place.base path Follow)) act)
+    (λ path. on_file_well (opened_at T (resolve T place.base path Follow)) act (opened_well T (resolve T place.base path Follow) (resolve_well T place.base path Follow)) h)
+
+session_well : (T : Tree) (client : ClientId) (session : Session) → FoundWell (session_file T client session)
+session_well T client session = held (has_session T client session)
+  where
+    there : (o : Option Node) → FoundWell (file_there session.inode o)
+    there None = tt
+    there (Some node) = file_well session.inode codes.NoSession tt node.part
+
+    held : (b : Bool) → FoundWell (cond b (file_there session.inode (get T.nodes session.inode)) (Err codes.NoSession))
+    held true = there (get T.nodes session.inode)
+    held false = tt
+
+extend_well : (T : Tree) (place : ℕ) (file : FileInfo) → RepliesWell (extend_file T place file)
+extend_well T place file = within (nat_lt place file.layout.stripe)
+  where
+    within : (b : Bool) → RepliesWell (cond b (Makes (with_hint T file.inode (hint_over file.layout.stripe place file.hint) (get T.nodes file.inode)) (replies.Hint (hint_over file.layout.stripe place file.hint))) (refuses codes.ShortHint))
+    within true = tt
+    within false = tt
+
 call_well : (C : Settings) (T : Tree) (q : Request) (call : Call) → RepliesWell (effect_of C T q call)
 call_well C T q (calls.Lookup place) = by_path place.text (λ path. Leaves (found_of (resolve T place.base path NoFollow))) (λ path. found_well (resolve T place.base path NoFollow) (resolve_well T place.base path NoFollow))
 call_well C T q (calls.Stat place) = by_path place.text (λ path. stat_at T (resolve T place.base path Follow)) (λ path. stat_well T (resolve T place.base path Follow) (resolve_well T place.base path Follow))
 call_well C T q (calls.List place) = by_path place.text (λ path. list_at T (resolve T place.base path Follow)) (λ path. list_well T (resolve T place.base path Follow) (resolve_well T place.base path Follow))
 call_well C T q (calls.Readlink place) = by_path place.text (λ path. readlink_at T (resolve T place.base path NoFollow)) (λ path. readlink_well T (resolve T place.base path NoFollow) (resolve_well T place.base path NoFollow))
+call_well C T q (calls.Openr place) = open_well T place (λ file. Leaves (replies.File file)) (λ file. tt)
+call_well C T q (calls.Fstat session) = on_file_well (session_file T q.client session) (λ file. Leaves (replies.File file)) (session_well T q.client session) (λ file. tt)
 call_well C T q (calls.Mkdir place mode layout) =
     by_path place.text (λ path. if is_layout C layout then make_at C T q.server q.stamp (new_dir mode layout) (resolve T place.base path Parent) else refuses codes.BadLayout)
     (λ path. layout_well C T q.server q.stamp (new_dir mode layout) (is_layout C layout) (resolve T place.base path Parent) (resolve_well T place.base path Parent))
@@ -410,6 +470,8 @@ call_well C T q (calls.Rename from to) =
     (λ source. by_path to.text (λ path. have_names source path (rename_at T q.stamp (resolve T from.base source Parent) (resolve T to.base path Parent)))
     (λ path. both_named_well T q.stamp (is_end source.names) (is_end path.names) (rename_at T q.stamp (resolve T from.base source Parent) (resolve T to.base path Parent))
     (rename_at_well T q.stamp (resolve T from.base source Parent) (resolve T to.base path Parent) (resolve_well T from.base source Parent) (resolve_well T to.base path Parent))))
+call_well C T q (calls.Open place) = open_well T place (λ file. Makes (with_writer T file.inode q.client q.number) (replies.File file)) (λ file. tt)
+call_well C T q (calls.Extend session place) = on_file_well (session_file T q.client session) (extend_file T place) (session_well T q.client session) (extend_well T place)
 call_well C T q call = tt
 
 -- ---- replies

@@ -1,6 +1,6 @@
 use crate::words::given;
 use anyhow::{Context, Result, bail};
-use fs_base::{Call, Changes, DefaultLayout, InodeId, Place, Text};
+use fs_base::{Call, Changes, DefaultLayout, InodeId, Place, Session, Text};
 use std::alloc::Global;
 
 fn place_of(alloc: Global, base: &str, path: &str) -> Result<Place> {
@@ -55,6 +55,8 @@ fn query_of(word: &str, place: Place) -> Result<Call> {
         "stat" => Ok(Call::Stat(place)),
         "list" => Ok(Call::List(place)),
         "readlink" => Ok(Call::Readlink(place)),
+        "openr" => Ok(Call::Openr(place)),
+        "open" => Ok(Call::Open(place)),
         "unlink" => Ok(Call::Unlink(place)),
         "rmdir" => Ok(Call::Rmdir(place)),
         _ => bail!("no such call"),
@@ -78,13 +80,35 @@ fn make_of(word: &str, place: Place, mode: &str, layout: &[&str]) -> Result<Call
     })
 }
 
+fn session_of(inode: &str, number: &str) -> Result<Session> {
+    let inode = InodeId::read(inode.parse::<u64>()?).context("no inode has this number")?;
+    let number = number.parse::<u64>()?;
+    Ok(Session { inode, number })
+}
+
+/// A call by a session: its name, and for `extend` a place of the layout.
+fn by_session(word: &str, session: Session, more: &[&str]) -> Result<Call> {
+    match (word, more) {
+        ("fstat", []) => Ok(Call::Fstat(session)),
+        ("extend", [place]) => {
+            let place = place.parse::<u16>()?;
+            Ok(Call::Extend { session, place })
+        }
+        _ => bail!("the call has no such words"),
+    }
+}
+
 /// A call in words: its name, the number of the inode that its path starts at, the path, and what else it has. That is
 /// a mode and maybe a chunk and a stripe for `mkdir` and `create`, a target for `symlink`, a second inode and path for
-/// `link` and `rename`, and for `setattr` five numbers, each of which may be `-`.
+/// `link` and `rename`, and for `setattr` five numbers, each of which may be `-`. For `fstat` and `extend` it is
+/// the name, a session's inode and number, and for `extend` a place of the layout.
 pub fn call_of(alloc: Global, words: &[&str]) -> Result<Call> {
     let [word, base, path, more @ ..] = words else {
         bail!("a call has a name, an inode and a path");
     };
+    if *word == "fstat" || *word == "extend" {
+        return by_session(word, session_of(base, path)?, more);
+    }
     let place = place_of(alloc, base, path)?;
     match (*word, more) {
         ("mkdir" | "create", [mode, layout @ ..]) => make_of(word, place, mode, layout),

@@ -5,5 +5,6 @@ pub mod LinkingLaws
 pub mod MapLaws
 pub mod MovingLaws
 pub mod RenameLaws
+pub mod SessionLaws
 pub mod Undo
 pub mod WalkLaws

@@ -101,9 +101,9 @@ doubled (suc times) place hint = if nat_lt place hint then hint else doubled tim
 abbrev pub at_most : ℕ → ℕ → ℕ
 at_most bound n = if nat_lt bound n then bound else n
 
--- the hint that brings a place of the layout into use
+-- the hint that brings a place of the layout into use; one that does so already stays
 abbrev pub hint_over : ℕ → ℕ → ℕ → ℕ
-hint_over stripe place hint = at_most stripe (doubled 16 place hint)
+hint_over stripe place hint = if nat_lt place hint then hint else at_most stripe (doubled 16 place hint)
 
 abbrev pub part_with_hint : ℕ → NodePart → NodePart
 part_with_hint hint (Dir layout) = Dir layout

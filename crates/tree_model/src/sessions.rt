@@ -27,10 +27,13 @@ fn doubled(place: u16, hint: u16) -> u32
 }
 
 /// The hint that brings a place of a layout into use: the hint doubled until it is above the place, at most to
-/// the stripe.
+/// the stripe. One that is above the place stays.
 pub fn hint_over(stripe: u16, place: u16, hint: u16) -> u16
     ensures { result ≡ hint_over stripe place hint }
 {
+    if place < hint {
+        return hint;
+    }
     let doubled = doubled(place, hint);
     if u32::from(stripe) < doubled {
         stripe
