@@ -30,6 +30,7 @@ use Rattle.tree_model.specs.Calls.{is_query}
 use Rattle.tree_model.specs.Creating.{new_dir, new_file, new_link}
 use Rattle.tree_model.specs.Linking.{is_empty_dir}
 use Rattle.tree_model.specs.Moving.{is_below}
+use Rattle.tree_model.specs.Sessions.{has_session}
 use Rattle.tree_model.specs.Tree.{Tree}
 use Rattle.tree_model.specs.Walk.{Trip, stay, travel}
 use Rattle.path_walk.specs.Areas.{Area, OneKey, FirstRow, entries, trip_areas}
@@ -197,20 +198,17 @@ renamed_at T to _ = []
 
 -- ---- write sessions
 
--- a directory isn't opened
+-- a directory isn't opened, so its inode isn't read
 abbrev pub file_at : Walked → List Area
 file_at (At id kinds.File) = OneKey (keys.Inode id) ∷ []
+file_at (At id kinds.Link) = OneKey (keys.Inode id) ∷ []
 file_at _ = []
-
-abbrev pub if_open : Option (Unit {0}) → List Area → List Area
-if_open None areas = []
-if_open (Some it) areas = areas
 
 -- the caller's session, and the inode of its file; number 0 is asked for as any other, and no row has it
 abbrev pub session_areas : Tree → ClientId → Session → List Area
 session_areas T client s =
     OneKey (keys.Session s.inode client s.number)
-    ∷ if_open (get T.writers (s.inode, (client.0, s.number))) (OneKey (keys.Inode s.inode) ∷ [])
+    ∷ (if has_session T client s then OneKey (keys.Inode s.inode) ∷ [] else [])
 
 -- ---- the calls
 
