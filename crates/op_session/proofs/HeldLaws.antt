@@ -19,17 +19,18 @@ use Rattle.inode_record.specs.declared.inode.InodePart.TheVariants as parts
 use Rattle.inode_record.specs.declared.inode.InodeRow.{InodeRow}
 use Rattle.key_schema.specs.declared.key.Key.{Key}
 use Rattle.key_schema.specs.declared.key.Key.TheVariants as keys
-use Rattle.row_tree.specs.Steps.{with_row}
+use Rattle.row_tree.specs.Steps.{hinted_row, part_hinted, with_row}
 use Rattle.row_tree.specs.TreeOf.{node_of, node_part, tree_of}
 use Rattle.row_tree.specs.TypedRows.{TypedRows, kind_of, parent_of}
 use Rattle.row_tree.specs.Values.{InodeValue, SessionValue, Value}
 use Rattle.row_tree.specs.WellFormed.{FitsConfig, IsWellFormed}
-use Rattle.row_tree.proofs.Changing.{changes_row, tree_with_row}
+use Rattle.row_tree.proofs.Sessions.{extend_one}
 use Rattle.row_tree.proofs.Telling.{node_is, writer_is}
 use Rattle.tree_model.specs.declared.node.Node.{Node}
 use Rattle.tree_model.specs.Effects.{Effect, Leaves, Makes, at_length, refuses}
 use Rattle.tree_model.specs.Sessions.{extend_file, file_of, file_there, has_session, hint_over, on_file, session_file, with_hint}
 use Rattle.tree_model.specs.Tree.{Tree}
+use Rattle.tree_model.proofs.HintLaws.{hint_over_fits}
 use Rattle.tree_model.proofs.MapLaws.{ids, set_present}
 use Rattle.txn_task.specs.Agreeing.{Agrees}
 use Rattle.txn_task.specs.Transactions.{Transaction}
@@ -45,24 +46,12 @@ use Rattle.path_walk.specs.Owed.{HasDone, HasStepped}
 use Rattle.path_walk.specs.Puts.{ArePuts, MakesPuts, put_writes}
 use Rattle.path_walk.proofs.PutLaws.{puts_done}
 use Rattle.path_walk.proofs.StepLaws.{asks_key, tells}
-use Rattle.op_session.specs.Ending.{IsHeld, IsHeldStep, PutsHint, hinted_row, part_hinted}
+use Rattle.op_session.specs.Ending.{IsHeld, IsHeldStep, PutsHint}
 use Rattle.op_session.specs.Session.{does_by}
 use Rattle.op_session.specs.declared.task.HeldCall.{HeldCall}
 use Rattle.op_session.specs.declared.task.HeldCall.TheVariants as held
-use Rattle.op_session.proofs.HintRows.{IsFilePart, file_parts, hint_from, hint_to, hinted_fits, hinted_node, same_hint}
-use Rattle.op_session.proofs.SessionRows.{hint_fits}
-
--- ---- parts with another hint
-
-kind_stays : (hint : ℕ) (part : InodePart) → kind_of (part_hinted hint part) ≡ kind_of part
-kind_stays hint (parts.Dir parent chunk stripe) = refl
-kind_stays hint (parts.File length truncs layout old) = refl
-kind_stays hint (parts.Link target) = refl
-
-parent_stays : (hint : ℕ) (part : InodePart) → parent_of (part_hinted hint part) ≡ parent_of part
-parent_stays hint (parts.Dir parent chunk stripe) = refl
-parent_stays hint (parts.File length truncs layout old) = refl
-parent_stays hint (parts.Link target) = refl
+use Rattle.op_session.proofs.HintRows.{IsFilePart, file_parts, hinted_fits, same_hint}
+use Rattle.op_session.proofs.Ranges.{hint_fits}
 
 abbrev hint_in : InodePart → ℕ
 hint_in (parts.File length truncs layout hint) = hint
@@ -164,47 +153,28 @@ module _ (t : Transaction) (none : t.writes ≡ []) (client : ClientId) (session
           part : IsFilePart session.inode row.part file
           part = file_parts session.inode row.part file at
 
-          abbrev IsHint : Type 0
-          IsHint = (1 ≤ hint) × (hint ≤ file.layout.stripe)
+          abbrev told_file : FileInfo
+          told_file = record { inode = session.inode; length = file.length; truncs = file.truncs; layout = file.layout; hint = file.hint }
 
-          in_stripe : (C : Settings) (S : TypedRows) → IsWellFormed C S → Agrees S t.reads → FitsConfig C session.inode (parts.File file.length file.truncs file.layout file.hint)
-          in_stripe C S good agrees = subst (FitsConfig C session.inode) part.is (good.fits session.inode row (read.there S agrees))
+          same_file : file ≡ (told_file)
+          same_file = λ i. record { inode = (part).inode i; length = file.length; truncs = file.truncs; layout = file.layout; hint = file.hint }
 
-          is_within : (C : Settings) (S : TypedRows) → IsWellFormed C S → Agrees S t.reads → IsHint
+          is_within : (C : Settings) (S : TypedRows) → IsWellFormed C S → Agrees S t.reads → (1 ≤ hint) × (hint ≤ file.layout.stripe)
           is_within C S good agrees =
-              let fits = in_stripe C S good agrees in
-              let from : 1 ≤ file.hint = fits.1 in
-              let to : file.hint ≤ file.layout.stripe = fits.2 in (
-                subst (λ (n : ℕ). 1 ≤ n) (sym is_hint) (hint_from file.layout.stripe place file.hint (omega arith) from),
-                subst (λ (n : ℕ). n ≤ file.layout.stripe) (sym is_hint) (hint_to file.layout.stripe place file.hint),
-              )
-
-          new_fits : (C : Settings) (S : TypedRows) → IsWellFormed C S → Agrees S t.reads → FitsConfig C session.inode (part_hinted hint row.part)
-          new_fits C S good agrees =
-              subst (λ (p : InodePart). FitsConfig C session.inode (part_hinted hint p)) (sym part.is)
-              (let h = is_within C S good agrees in ((in_stripe C S good agrees).0, h.0, h.1))
+              let fits = subst (FitsConfig C session.inode) (part).is (good.fits session.inode row (read.there S agrees)) in
+              subst (λ (h : ℕ). (1 ≤ h) × (h ≤ file.layout.stripe)) (sym is_hint) (hint_over_fits file.layout.stripe place file.hint fits.1 fits.2)
 
           abbrev does : Tree → Effect
           does = does_by (held.Extend place) client session
 
           -- the rows with the new hint are well-formed, and their tree is the one that the call makes
           makes : (C : Settings) (S : TypedRows) → IsWellFormed C S → Agrees S t.reads → IsWellFormed C (with_row S session.inode (new)) × (does (tree_of S) ≡ Makes (tree_of (with_row S session.inode (new))) (Hint hint))
-          makes C S good agrees = (
-            changes_row C S good session.inode row (new) (record {
-              there = read.there S agrees;
-              kind = kind_stays hint row.part;
-              parent = parent_stays hint row.part;
-              links = refl;
-              fits = new_fits C S good agrees;
-            }),
-            ap (λ r. on_file r (extend_file (tree_of S) place)) (its_file S agrees)
-                ∙ ap (λ b. cond b (made (tree_of S) place) (refuses codes.ShortHint)) (lt-ltb place file.layout.stripe within)
-                ∙ ap (λ (h : ℕ). Makes (with_hint (tree_of S) file.inode h (get (tree_of S).nodes file.inode)) (Hint h)) (sym is_hint)
-                ∙ ap (λ (i : ℕ). Makes (with_hint (tree_of S) i hint (get (tree_of S).nodes i)) (Hint hint)) part.inode
-                ∙ ap (λ (n : Option Node). Makes (with_hint (tree_of S) session.inode hint n) (Hint hint)) (node_is S session.inode (Some row) (read.there S agrees))
-                ∙ ap (λ (n : Node). Makes (record (tree_of S) { nodes = insert (tree_of S).nodes session.inode n }) (Hint hint)) (sym (hinted_node hint row))
-                ∙ ap (λ (T : Tree). Makes T (Hint hint)) (sym (tree_with_row S session.inode (new))),
-          )
+          makes C S good agrees =
+              let one = extend_one S session.inode row (read.there S agrees) file.length file.truncs file.layout file.hint (part).is C good place within in
+              subst (λ (h : ℕ). IsWellFormed C (with_row S session.inode (hinted_row h row)) × (does (tree_of S) ≡ Makes (tree_of (with_row S session.inode (hinted_row h row))) (Hint h))) (sym is_hint) (
+                one.0,
+                ap (λ r. on_file r (extend_file (tree_of S) place)) (its_file S agrees) ∙ (ap (extend_file (tree_of S) place) same_file ∙ one.1),
+              )
 
           abbrev put : List (Key × Option Value)
           put = (keys.Inode session.inode, Some (InodeValue (new))) ∷ []

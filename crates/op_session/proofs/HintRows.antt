@@ -1,4 +1,4 @@
--- A file's row with another hint: from 1 to the stripe, so it fits; and its node is the one with that hint.
+-- A file's row with another hint, from 1 to the stripe, may be spelled; and the row put.
 use Rattle.std.proofs.Common.{◌≡◌, ℕ, zero, suc, ◌+◌, ◌<◌, ◌≤◌, ◌^◌, Bool, true, false, cond, nat_lt, ◌&&◌, ◌≢◌, [], refl, sym, ap, subst, ◌∙◌, inr, arith}
 use Rattle.std.specs.Prelude.{IsTrue, Some}
 use Rattle.std.proofs.lemmas.Bool.{and_parts, ltb-false}
@@ -13,37 +13,13 @@ use Rattle.inode_record.specs.declared.inode.InodeRow.{InodeRow}
 use Rattle.inode_record.proofs.InRange.{fits_row, is_part, row_fits}
 use Rattle.key_schema.specs.Keys.{spelled_key}
 use Rattle.key_schema.specs.declared.key.Key.TheVariants as keys
-use Rattle.row_tree.specs.TreeOf.{node_of, node_part}
+use Rattle.row_tree.specs.Steps.{hinted_row, part_hinted}
+use Rattle.row_tree.specs.TreeOf.{node_part}
 use Rattle.row_tree.specs.Values.{spelled_value}
-use Rattle.tree_model.specs.Sessions.{doubled, file_of, hint_over, hinted, part_with_hint}
+use Rattle.tree_model.specs.Sessions.{file_of}
 use Rattle.txn_task.specs.Transactions.{Transaction}
 use Rattle.txn_task.specs.Writes.{set_write}
-use Rattle.op_session.specs.Ending.{PutsHint, hinted_row, part_hinted}
-
--- ---- the hint
-
-doubled_from : (times place hint : ℕ) → 1 ≤ hint → 1 ≤ doubled times place hint
-unfolding doubled
-doubled_from zero place hint from = from
-doubled_from (suc times) place hint from = by (nat_lt place hint) (doubled_from times place (hint + hint) (omega arith))
-  where
-    by : (b : Bool) → 1 ≤ doubled times place (hint + hint) → 1 ≤ cond b hint (doubled times place (hint + hint))
-    by true more = from
-    by false more = more
-
-pub hint_from : (stripe place hint : ℕ) → 1 ≤ stripe → 1 ≤ hint → 1 ≤ hint_over stripe place hint
-hint_from stripe place hint some from = by (nat_lt stripe (doubled 16 place hint)) (doubled_from 16 place hint from)
-  where
-    by : (b : Bool) → 1 ≤ doubled 16 place hint → 1 ≤ cond b stripe (doubled 16 place hint)
-    by true more = some
-    by false more = more
-
-pub hint_to : (stripe place hint : ℕ) → hint_over stripe place hint ≤ stripe
-hint_to stripe place hint = by (nat_lt stripe (doubled 16 place hint)) refl
-  where
-    by : (b : Bool) → nat_lt stripe (doubled 16 place hint) ≡ b → cond b stripe (doubled 16 place hint) ≤ stripe
-    by true is = omega arith
-    by false is = ltb-false stripe (doubled 16 place hint) is
+use Rattle.op_session.specs.Ending.{PutsHint}
 
 -- ---- the row
 
@@ -80,14 +56,6 @@ hinted_fits row file hint is fits small from to =
     row_fits (hinted_row hint row) each.0
     (subst (λ (p : InodePart). is_part (part_hinted hint p) ≡ true) (sym is)
     (part_fits file.length file.truncs file.layout file.hint hint (subst (λ (p : InodePart). is_part p ≡ true) is each.1) small from to))
-
-pub hinted_node : (hint : ℕ) (row : InodeRow) → node_of (hinted_row hint row) ≡ hinted hint (node_of row)
-hinted_node hint row = ap (λ part. record (node_of row) { part = part }) (by row.part)
-  where
-    by : (part : InodePart) → node_part (part_hinted hint part) ≡ part_with_hint hint (node_part part)
-    by (parts.Dir parent chunk stripe) = refl
-    by (parts.File length truncs used old) = refl
-    by (parts.Link target) = refl
 
 -- the hint that it has
 pub same_hint : (row : InodeRow) (file : FileInfo) → row.part ≡ parts.File file.length file.truncs file.layout file.hint → hinted_row file.hint row ≡ row

@@ -1,4 +1,4 @@
 pub mod HeldLaws
 pub mod HintRows
 pub mod OpenLaws
-pub mod SessionRows
+pub mod Ranges

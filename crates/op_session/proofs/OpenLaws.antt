@@ -26,6 +26,7 @@ use Rattle.row_tree.specs.TreeOf.{node_of, node_part, tree_of}
 use Rattle.row_tree.specs.TypedRows.{TypedRows, kind_of}
 use Rattle.row_tree.specs.Values.{SessionValue, Value, spelled_value}
 use Rattle.row_tree.specs.WellFormed.{HasKind}
+use Rattle.row_tree.proofs.Sessions.{adds_session, tree_with_session}
 use Rattle.row_tree.proofs.Telling.{node_is}
 use Rattle.tree_model.specs.declared.walk.Walked.{Walked}
 use Rattle.tree_model.specs.declared.walk.Walked.TheVariants.{At}
@@ -50,7 +51,7 @@ use Rattle.op_session.specs.Session.{MayOpen, opens_at}
 use Rattle.op_session.specs.declared.task.OpenMode.{OpenMode}
 use Rattle.op_session.specs.declared.task.OpenMode.TheVariants as modes
 use Rattle.op_session.proofs.HintRows.{IsFilePart, file_parts}
-use Rattle.op_session.proofs.SessionRows.{IsInRange, adds_session, file_fits, session_fits, tree_with_session}
+use Rattle.op_session.proofs.Ranges.{IsInRange, file_fits, session_fits}
 
 -- ---- how a task begins
 
@@ -136,7 +137,7 @@ module _ (t u : Transaction) (none : t.writes ≡ []) (client : ClientId) (id : 
     adds_session C S good id client.0 number stamp (has_file S agrees),
     ap (λ r. at_length 0 (on_file r (λ (f : FileInfo). Makes (with_writer (tree_of S) f.inode client number) (File f)))) (opened_file t none (modes.Write number stamp) client id file is kind other S agrees)
         ∙ ap (λ (i : ℕ). Makes (with_writer (tree_of S) i client number) (File file)) part.inode
-        ∙ ap (λ (T : Tree). Makes T (File file)) (sym (tree_with_session S id client.0 number stamp)),
+        ∙ ap (λ (T : Tree). Makes T (File file)) (sym (tree_with_session S id client number stamp)),
   )
 
   pub opened_to_write : (asked : List Asked) → asked ≡ [] → IsInRange file

@@ -8,10 +8,9 @@ use Rattle.fs_base.specs.declared.ids.ClientId.{ClientId}
 use Rattle.fs_base.specs.declared.kind.Kind.{Kind}
 use Rattle.fs_base.specs.declared.kind.Kind.TheVariants as kinds
 use Rattle.fs_base.specs.declared.reply.FileInfo.{FileInfo}
-use Rattle.inode_record.specs.declared.inode.InodePart.{InodePart}
-use Rattle.inode_record.specs.declared.inode.InodePart.TheVariants as parts
 use Rattle.inode_record.specs.declared.inode.InodeRow.{InodeRow}
 use Rattle.key_schema.specs.declared.key.Key.TheVariants as keys
+use Rattle.row_tree.specs.Steps.{hinted_row}
 use Rattle.row_tree.specs.TreeOf.{node_part}
 use Rattle.row_tree.specs.TypedRows.{TypedRows}
 use Rattle.row_tree.specs.Values.{InodeValue}
@@ -59,15 +58,6 @@ pub record IsFileRead (reads : ReadSet) (id : ℕ) (file : FileInfo) : Type 0 wh
   pub is_file : file_of id (node_part row.part) ≡ Some file
 
 -- ---- rows that are put
-
-abbrev pub part_hinted : ℕ → InodePart → InodePart
-part_hinted hint (parts.Dir parent chunk stripe) = parts.Dir parent chunk stripe
-part_hinted hint (parts.File length truncs layout old) = parts.File length truncs layout hint
-part_hinted hint (parts.Link target) = parts.Link target
-
--- another hint of a file, and no other field
-abbrev pub hinted_row : ℕ → InodeRow → InodeRow
-hinted_row hint row = record row { part = part_hinted hint row.part }
 
 -- the row is put where the hint changes
 abbrev pub PutsHint : ℕ → ℕ → ℕ → InodeRow → Transaction → Transaction → Type 0

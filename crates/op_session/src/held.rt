@@ -3,7 +3,8 @@ ghost use Rattle.fs_base.specs.declared.limits.TheConstants.{INODE_IDS};
 ghost use Rattle.row_tree.specs.TreeOf.{node_part};
 ghost use Rattle.path_walk.specs.Directories.{IsRowRead};
 ghost use Rattle.tree_model.specs.Sessions.{file_of};
-ghost use Rattle.op_session.specs.Ending.{IsHeld, IsHeldStep, PutsHint, hinted_row, part_hinted};
+ghost use Rattle.row_tree.specs.Steps.{hinted_row, part_hinted};
+ghost use Rattle.op_session.specs.Ending.{IsHeld, IsHeldStep, PutsHint};
 ghost use Rattle.op_session.specs.declared.task.HeldCall.TheVariants as held;
 
 use crate::opening::file_of;
