@@ -7,7 +7,7 @@ use Rattle.hist_board.specs.Passes.{SeesOn, AllSeen}
 use Rattle.hist_board.specs.declared.view.View.{View}
 use Rattle.hist_board.proofs.Contained.{off, contains_first, contains_more, contains_left, contains_right}
 use Rattle.board_tests.specs.Adding.{HasAdded}
-use Rattle.board_tests.specs.Errands.{errand_of, numbers_of, up_to, HasEachOnce}
+use Rattle.board_tests.specs.Errands.{errand_of, numbers_of, numbers_below, HasEachOnce}
 use Rattle.board_tests.specs.declared.log.Entry.{Entry}
 use Rattle.board_tests.specs.declared.log.Log.{Log}
 
@@ -70,17 +70,17 @@ pub seen_here : (v w : View Entry (Unit {0})) (h : List Entry) → 0 < length v.
 seen_here v w h near is = ap (λ (u : View Entry (Unit {0})). seen_at u 0) is
     ∙ get_or-set_same v.seen 0 h [] near
 
-pub up_to_none : up_to 0 ≡ []
-unfolding up_to
+pub up_to_none : numbers_below 0 ≡ []
+unfolding numbers_below
 up_to_none = refl
 
-up_to_more : (n : ℕ) → up_to (n + 1) ≡ up_to n ++ n ∷ []
-unfolding up_to
+up_to_more : (n : ℕ) → numbers_below (n + 1) ≡ numbers_below n ++ n ∷ []
+unfolding numbers_below
 up_to_more n = rw add-one refl
 
 -- one number more was added
 pub own_more : {E : Type 0} (n : ℕ) (xs ys : List ℕ) (r : Result (Unit {0}) E) → HasAdded xs n r ys
-    → is_err r ≡ false → xs ≡ up_to n → ys ≡ up_to (n + 1)
+    → is_err r ≡ false → xs ≡ numbers_below n → ys ≡ numbers_below (n + 1)
 own_more n xs ys (Ok u) added ok is = added ∙ (ap (λ (ns : List ℕ). ns ++ n ∷ []) is ∙ sym (up_to_more n))
 own_more n xs ys (Err e) added ok is = absurd (off (sym ok))
 
@@ -113,7 +113,8 @@ hist log = log.items.items
 pub closed_once : (n : ℕ) (v w : View Entry (Unit {0})) (objects : List Log) → length v.kinds ≡ 1
     → is_some v.frame ≡ true → Contains v.errands 0 → Contains v.errands 1
     → SeesOn errands v w → AllSeen hist (λ _. tt) (λ _. 0) (λ _ _. Unit {0}) w objects
-    → numbers_of 0 (seen_at v 0) ≡ up_to n → numbers_of 1 (seen_at v 0) ≡ up_to n → HasEachOnce n objects
+    → numbers_of 0 (seen_at v 0) ≡ numbers_below n → numbers_of 1 (seen_at v 0) ≡ numbers_below n
+    → HasEachOnce n objects
 closed_once n v w [] one live has_0 has_1 on all is_0 is_1 = let c = all.count in
     let k = ap (λ (ks : List ℕ). length ks) on.1 in absurd (omega arith)
 closed_once n v w (log ∷ other ∷ logs) one live has_0 has_1 on all is_0 is_1 = let c = all.count in

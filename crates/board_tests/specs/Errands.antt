@@ -14,11 +14,11 @@ numbers_of client
     (entry ∷ entries) = if entry.client == client then entry.number ∷ numbers_of client entries else numbers_of client entries
 
 -- the numbers below n, in order
-unfoldable pub up_to : ℕ → List ℕ
-up_to zero = []
-up_to (suc n) = up_to n ++ n ∷ []
+unfoldable pub numbers_below : ℕ → List ℕ
+numbers_below zero = []
+numbers_below (suc n) = numbers_below n ++ n ∷ []
 
 -- it is one log, in which the clients 0 and 1 have the numbers below n, each once and in order
 abbrev pub HasEachOnce : ℕ → List Log → Type 0
-HasEachOnce n logs = (log : Log) × (logs ≡ log ∷ []) × (numbers_of 0 log.items.items ≡ up_to n) ×
-    (numbers_of 1 log.items.items ≡ up_to n)
+HasEachOnce n logs = (log : Log) × (logs ≡ log ∷ []) × (numbers_of 0 log.items.items ≡ numbers_below n) ×
+    (numbers_of 1 log.items.items ≡ numbers_below n)

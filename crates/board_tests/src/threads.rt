@@ -1,6 +1,6 @@
 //! Two threads that add entries to one list.
 ghost use Rattle.std.specs.Prelude.{◌≡◌, ℕ, ◌+◌, ◌<◌, List, [], ◌∷◌, true, Contains, length, IfOk};
-ghost use Rattle.board_tests.specs.Errands.{numbers_of, up_to, HasEachOnce};
+ghost use Rattle.board_tests.specs.Errands.{numbers_of, numbers_below, HasEachOnce};
 ghost use Rattle.hist_board.specs.Rule.{seen_at, all_errands};
 ghost use Rattle.hist_board.specs.Calls.{view_of, IsPassOf};
 
@@ -20,7 +20,7 @@ fn add_all<W: Wait>(rt: &W, board: &Board<Log>, pass: Pass<Log>, client: u32) ->
     requires none { numbers_of client (seen_at (view_of pass) 0) ≡ [] }
     ensures board { IsPassOf board.now result.0 }
     ensures errands { (view_of result.0).errands ≡ (view_of pass).errands }
-    ensures own { result.1 ≡ true → numbers_of client (seen_at (view_of result.0) 0) ≡ up_to 500 }
+    ensures own { result.1 ≡ true → numbers_of client (seen_at (view_of result.0) 0) ≡ numbers_below 500 }
 {
     let mut pass = pass;
     let mut all = true;
@@ -40,7 +40,7 @@ fn add_both<R: Threads + Wait + Sync>(rt: &R, board: &Board<Log>, pass: &mut Pas
     requires none { seen_at (view_of pass.old) 0 ≡ [] }
     ensures board { IsPassOf board.now pass.new }
     ensures errands { Contains (view_of pass.new).errands 0 × Contains (view_of pass.new).errands 1 }
-    ensures own { result ≡ true → (numbers_of 0 (seen_at (view_of pass.new) 0) ≡ up_to 500) × (numbers_of 1 (seen_at (view_of pass.new) 0) ≡ up_to 500) }
+    ensures own { result ≡ true → (numbers_of 0 (seen_at (view_of pass.new) 0) ≡ numbers_below 500) × (numbers_of 1 (seen_at (view_of pass.new) 0) ≡ numbers_below 500) }
 {
     let first = pass.split(board);
     let second = pass.split(board);
@@ -48,11 +48,11 @@ fn add_both<R: Threads + Wait + Sync>(rt: &R, board: &Board<Log>, pass: &mut Pas
         rt,
         move || -> (Pass<Log>, bool)
             requires { IsPassOf board.now first × (0 < length (view_of first).kinds) × Contains (view_of first).errands 0 × (numbers_of 0 (seen_at (view_of first) 0) ≡ []) }
-            ensures { IsPassOf board.entry.now result.0 × Contains (view_of result.0).errands 0 × (result.1 ≡ true → numbers_of 0 (seen_at (view_of result.0) 0) ≡ up_to 500) }
+            ensures { IsPassOf board.entry.now result.0 × Contains (view_of result.0).errands 0 × (result.1 ≡ true → numbers_of 0 (seen_at (view_of result.0) 0) ≡ numbers_below 500) }
         { add_all(rt, board, first, 0) },
         move || -> (Pass<Log>, bool)
             requires { IsPassOf board.now second × (0 < length (view_of second).kinds) × Contains (view_of second).errands 1 × (numbers_of 1 (seen_at (view_of second) 0) ≡ []) }
-            ensures { IsPassOf board.entry.now result.0 × Contains (view_of result.0).errands 1 × (result.1 ≡ true → numbers_of 1 (seen_at (view_of result.0) 0) ≡ up_to 500) }
+            ensures { IsPassOf board.entry.now result.0 × Contains (view_of result.0).errands 1 × (result.1 ≡ true → numbers_of 1 (seen_at (view_of result.0) 0) ≡ numbers_below 500) }
         { add_all(rt, board, second, 1) },
     );
     pass.join(board, first);

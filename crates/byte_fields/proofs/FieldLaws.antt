@@ -3,7 +3,7 @@ use Rattle.std.proofs.Common.{◌≡◌, ℕ, true, List, ◌++◌, Option, Some
 use Rattle.fs_base.specs.declared.kind.Kind.{Kind}
 use Rattle.fs_base.specs.declared.kind.Kind.TheVariants as kinds
 use Rattle.byte_fields.specs.Forms.{tagged, Form, paired, nothing, sized, reads_arm}
-use Rattle.byte_fields.specs.Fields.{number_1, number_2, number_4, number_8, from_to, within, inode_id, mode, time, file_size, chunk, stripe, layout_of, layout, used_layout, version_arms, version, versioned, written_option, option_arms, optional, written_kind, kind_arms, kind, text, path_text}
+use Rattle.byte_fields.specs.Fields.{number_1, number_2, number_4, number_8, from_to, within, inode_id, mode, time, file_size, chunk, stripe, layout_form, layout, used_layout, version_arms, version, versioned, written_option, option_arms, optional, written_kind, kind_arms, kind, text, path_text}
 use Rattle.byte_fields.proofs.FormLaws.{IsForm, went, AreArms, nothing_is, followed_is, paired_is, shaped_is, tested_is, one_field_is, sized_is, arm_is, arm_back, choice_is}
 use Rattle.byte_fields.proofs.Numbers.{number_1_is, number_2_is, number_4_is, number_8_is}
 
@@ -34,7 +34,7 @@ pub stripe_is : IsForm stripe
 unfolding stripe
 stripe_is = within_is number_2 _ _ number_2_is
 
-pub layout_of_is : (chunks stripes starts mixes : Form ℕ) → IsForm chunks → IsForm stripes → IsForm starts → IsForm mixes → IsForm (layout_of chunks stripes starts mixes)
+pub layout_of_is : (chunks stripes starts mixes : Form ℕ) → IsForm chunks → IsForm stripes → IsForm starts → IsForm mixes → IsForm (layout_form chunks stripes starts mixes)
 layout_of_is chunks stripes starts mixes ic it is im =
     shaped_is (paired chunks (paired stripes (paired starts mixes))) _ _ (paired_is chunks _ ic (paired_is stripes _ it (paired_is starts mixes is im))) (λ x. refl) (λ l. refl)
 

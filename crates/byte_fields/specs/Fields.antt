@@ -56,15 +56,15 @@ unfoldable pub stripe : Form ℕ
 stripe = within number_2 1 CHAINS
 
 -- a layout by its four numbers
-abbrev pub layout_of : Form ℕ → Form ℕ → Form ℕ → Form ℕ → Form Layout
-layout_of chunks stripes starts mixes =
+abbrev pub layout_form : Form ℕ → Form ℕ → Form ℕ → Form ℕ → Form Layout
+layout_form chunks stripes starts mixes =
     shaped (paired chunks (paired stripes (paired starts mixes)))
     (λ (c, (t, (s, m))). record { chunk = c; stripe = t; start = s; mix = m })
     (λ l. (l.chunk, (l.stripe, (l.start, l.mix))))
 
 -- a file's layout: the first chain is below 256, the number for shuffling an inode's
 unfoldable pub layout : Form Layout
-layout = layout_of chunk stripe (within number_2 0 (CHAINS - 1)) inode_id
+layout = layout_form chunk stripe (within number_2 0 (CHAINS - 1)) inode_id
 
 -- and how many places of it are in use: 1 to the stripe
 unfoldable pub used_layout : Form (Layout × ℕ)

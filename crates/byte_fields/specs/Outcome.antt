@@ -11,9 +11,9 @@ left_of (fields.Unread left) = Some left
 left_of fields.Memory = None
 
 -- the place in the whole bytes
-abbrev pub place_of : RowError → Option ℕ
-place_of (rows.NotARecord place) = Some place
-place_of rows.Memory = None
+abbrev pub fault_place : RowError → Option ℕ
+fault_place (rows.NotARecord place) = Some place
+fault_place rows.Memory = None
 
 -- an error is the refusal of the bytes, and never want of memory
 abbrev pub NeedsNoMemory : {X E F : Type 0} → (E → Option F) → Result X E → Type 0

@@ -2,7 +2,7 @@ ghost use Rattle.std.specs.Prelude.{◌≡◌, ℕ, List, Result, IsTrue, length
 ghost use Rattle.fs_base.specs.Gives.{Gives};
 ghost use Rattle.byte_fields.specs.Forms.{are_bytes, front, sized, placed};
 ghost use Rattle.byte_fields.specs.Fields.{version, number_1, number_2, number_4, number_8, within, inode_id, mode, time, file_size, chunk, stripe, layout, used_layout, kind, text, path_text, client};
-ghost use Rattle.byte_fields.specs.Outcome.{left_of, place_of, NeedsNoMemory};
+ghost use Rattle.byte_fields.specs.Outcome.{left_of, fault_place, NeedsNoMemory};
 
 use crate::error::{FieldError, RowError};
 use fs_base::limits::{CHAINS, CHUNK_BYTES, FILE_BYTES, INODE_IDS, MODES, TIMES};
@@ -318,8 +318,8 @@ impl<'a> Cursor<'a> {
     /// What was read, if no bytes are left; `size` is how many there were.
     pub fn finish<T: Drop>(&self, size: usize, read: Result<T, FieldError>) -> Result<T, RowError>
         ensures gives { (r : Result (T × List ℕ) ℕ) → Gives left_of (λ v. (v, self.now)) read r
-            → Gives place_of (λ v. v) result (placed size r) }
-        ensures memory { NeedsNoMemory left_of read → NeedsNoMemory place_of result }
+            → Gives fault_place (λ v. v) result (placed size r) }
+        ensures memory { NeedsNoMemory left_of read → NeedsNoMemory fault_place result }
     {
         match read {
             Ok(value) => {

@@ -39,8 +39,8 @@ unfoldable pub node_of_place : Settings → Layout → ℕ → ℕ
 node_of_place C layout place = slice_index_or (chains_of C layout) place 0 % C.nodes
 
 -- chunks go round the places
-abbrev pub place_of : Layout → ℕ → ℕ
-place_of layout index = index % layout.stripe
+abbrev pub place_of_chunk : Layout → ℕ → ℕ
+place_of_chunk layout index = index % layout.stripe
 
-abbrev pub node_of : Settings → Layout → ℕ → ℕ
-node_of C layout index = node_of_place C layout (place_of layout index)
+abbrev pub node_of_chunk : Settings → Layout → ℕ → ℕ
+node_of_chunk C layout index = node_of_place C layout (place_of_chunk layout index)

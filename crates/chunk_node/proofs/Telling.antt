@@ -4,7 +4,7 @@ use Rattle.std.specs.Prelude.{Some}
 use Rattle.std.proofs.lemmas.List.{append-nil, drop_all, length-drop, take_all}
 use Rattle.chunk_node.specs.declared.runs.Run.{Run}
 use Rattle.chunk_node.specs.Reading.{run_bytes, InRow, AreRuns, bytes_read}
-use Rattle.chunk_node.specs.Joining.{ended_runs, IsJoined, IsTold}
+use Rattle.chunk_node.specs.Joining.{ended_runs, IsJoined, IsReadSoFar}
 use Rattle.chunk_node.proofs.Cuts.{whole_bytes, whole_length, offset_at, take_at, end_at}
 use Rattle.chunk_node.proofs.Joins.{ended_bytes, ended_row}
 use Rattle.chunk_node.proofs.Parts.{part_longer, part_enough, take_padded}
@@ -12,13 +12,13 @@ use Rattle.chunk_node.proofs.Parts.{part_longer, part_enough, take_padded}
 -- those of the first so many runs
 pub record TellsSoFar (runs : List Run) (offset end i : ℕ) (out : List Run) (run : Run) : Type 0 where
   pub within : i ≤ length runs
-  pub told : IsTold (take i runs) offset end out run
+  pub told : IsReadSoFar (take i runs) offset end out run
 
 pub tells_none : (runs : List Run) (offset end i : ℕ) → i ≤ length runs → length (run_bytes (take i runs)) ≤ offset → (out : List Run) → out ≡ [] → TellsSoFar runs offset end i out (record { offset = offset; len = 0; fill = 0 })
 tells_none runs offset end i within early out none =
     record {
       within = within;
-      told = subst (λ (xs : List Run). IsTold (take i runs) offset end xs (record { offset = offset; len = 0; fill = 0 })) (sym none)
+      told = subst (λ (xs : List Run). IsReadSoFar (take i runs) offset end xs (record { offset = offset; len = 0; fill = 0 })) (sym none)
           (record {
             goes = record { row = tt; apart = tt; at = omega arith; begun = λ e. refl };
             bytes = sym (ap (take (end - offset)) (drop_all offset (run_bytes (take i runs)) early) ∙ take_all (end - offset) [] (omega arith));
@@ -49,8 +49,9 @@ module _ (runs : List Run) (offset end i : ℕ) (out : List Run) (run : Run) (ri
       }
 
   -- the others lie behind
-  pub tells_all : (length runs ≤ i) ⊎ (end ≤ length (run_bytes (take i runs))) → IsTold runs offset end out run
-  tells_all (inl over) = subst (λ (xs : List Run). IsTold xs offset end out run) (take_all i runs over) h.told
+  pub tells_all : (length runs ≤ i) ⊎ (end ≤ length (run_bytes (take i runs))) → IsReadSoFar runs offset end out run
+  tells_all (inl over) =
+      subst (λ (xs : List Run). IsReadSoFar xs offset end out run) (take_all i runs over) h.told
   tells_all (inr far) =
       let ends : run.offset + run.len ≡ offset + min (end - offset) (length (run_bytes (take i runs)) - offset) = h.told.ends in
       record {
@@ -61,7 +62,7 @@ module _ (runs : List Run) (offset end i : ℕ) (out : List Run) (run : Run) (ri
       }
 
 -- with zeros behind them
-pub read_runs : (runs : List Run) (offset end len absent : ℕ) (out new : List Run) (run whole : Run) → end ≡ offset + len → IsTold runs offset end out run → absent ≡ end - run.offset - run.len
+pub read_runs : (runs : List Run) (offset end len absent : ℕ) (out new : List Run) (run whole : Run) → end ≡ offset + len → IsReadSoFar runs offset end out run → absent ≡ end - run.offset - run.len
     → IsJoined out run absent 0 new whole → AreRuns (bytes_read (Some (run_bytes runs)) offset len) offset (ended_runs new whole)
 read_runs runs offset end len absent out new run whole is told rest joined =
     let ends : run.offset + run.len ≡ offset + min (end - offset) (length (run_bytes runs) - offset) = told.ends in

@@ -54,7 +54,7 @@ pub record IsRest (runs : List Run) (size count : ℕ) (run : Run) : Type 0 wher
 -- ---- a list of runs that is read
 
 -- the bytes from an offset on up to an end, as far as there are any
-pub record IsTold (runs : List Run) (offset end : ℕ) (out : List Run) (run : Run) : Type 0 where
+pub record IsReadSoFar (runs : List Run) (offset end : ℕ) (out : List Run) (run : Run) : Type 0 where
   pub goes : GoesOn offset out run
   pub bytes : bytes_so_far out run ≡ take (end - offset) (drop offset (run_bytes runs))
   pub ends : run.offset + run.len ≡ offset + min (end - offset) (length (run_bytes runs) - offset)

@@ -2,8 +2,8 @@ ghost use Rattle.std.specs.Prelude.{◌≡◌, ◌≤◌, ◌+◌, [], ◌∷◌
 ghost use Rattle.std.specs.Option.{option_map};
 ghost use Rattle.chunk_node.specs.Chunks.{chunk_after};
 ghost use Rattle.chunk_node.specs.Ends.{IsLastChunk};
-ghost use Rattle.chunk_node.specs.Limits.{removal_of, after_removal, is_full, is_full_for, HasCause};
-ghost use Rattle.chunk_node.specs.Reading.{AreKept, AreRuns, bytes_read};
+ghost use Rattle.chunk_node.specs.Limits.{removal_of, after_removal, is_full, is_full_for, HasNodeCause};
+ghost use Rattle.chunk_node.specs.Reading.{AreBytesKept, AreRuns, bytes_read};
 
 use crate::chunks::Chunks;
 use crate::history::{Done, EndDone, WriteDone};
@@ -60,11 +60,11 @@ impl Model for NodeState {
 
     ghost Value = { List Done };
 
-    ghost use Rattle.chunk_node.specs.Keeping.{IsKept};
+    ghost use Rattle.chunk_node.specs.Keeping.{IsNodeKept};
 
     ghost view = { λ s. s.history.items };
 
-    ghost invariant = { λ s. IsKept s.history.items s.chunks.map s.removed s.written s.counted };
+    ghost invariant = { λ s. IsNodeKept s.history.items s.chunks.map s.removed s.written s.counted };
 }
 
 impl NodeState {
@@ -104,7 +104,7 @@ impl NodeState {
             (λ answer. AreRuns (bytes_read (chunk_after self.now inode index) offset len) offset
             answer.1.items) }
         ensures unremoved { OnOk result (removal_of self.now inode ≡ None) }
-        ensures cause { IfErr result (λ why. HasCause (removal_of self.now inode) false why) }
+        ensures cause { IfErr result (λ why. HasNodeCause (removal_of self.now inode) false why) }
     {
         if let Some(why) = self.refusal(inode.get(), false) {
             return Err(why);
@@ -118,7 +118,7 @@ impl NodeState {
     ///
     /// It doesn't look whether the inode was removed.
     pub fn kept(&self, inode: InodeId, index: u64) -> Option<&[Run]>
-        ensures { AreKept (chunk_after self.now inode index) (option_map (λ runs. runs.now) result) }
+        ensures { AreBytesKept (chunk_after self.now inode index) (option_map (λ runs. runs.now) result) }
     {
         let bytes = self.chunks.get(inode.get(), index)?;
         Some(bytes.runs())
@@ -136,7 +136,7 @@ impl NodeState {
     /// Why something done to an inode is refused, if it is.
     fn refusal(&self, inode: u64, full: bool) -> Option<NodeError>
         ensures none { IfNone result ((removal_of self.now inode ≡ None) × (full ≡ false)) }
-        ensures some { IfSome result (λ why. HasCause (removal_of self.now inode) full why) }
+        ensures some { IfSome result (λ why. HasNodeCause (removal_of self.now inode) full why) }
     {
         match self.removed.get(&inode) {
             Some(version) => Some(NodeError::Removed(*version)),
@@ -165,7 +165,7 @@ impl NodeState {
         ensures unremoved { OnOk result (removal_of self.old w.inode ≡ None) }
         ensures room { OnOk result (is_full_for self.old w.len ≡ false) }
         ensures err { OnErr result (self.new ≡ self.old) }
-        ensures cause { IfErr result (λ why. HasCause (removal_of self.old w.inode) (is_full_for self.old w.len) why) }
+        ensures cause { IfErr result (λ why. HasNodeCause (removal_of self.old w.inode) (is_full_for self.old w.len) why) }
     {
         let full = self.is_full_for(w.len);
         if let Some(why) = self.refusal(w.inode.get(), full) {
@@ -192,7 +192,8 @@ impl NodeState {
         ensures unremoved { OnOk result (removal_of self.old s.inode ≡ None) }
         ensures room { OnOk result (is_full self.old ≡ false) }
         ensures err { OnErr result (self.new ≡ self.old) }
-        ensures cause { IfErr result (λ why. HasCause (removal_of self.old s.inode) (is_full self.old) why) }
+        ensures cause { IfErr result
+            (λ why. HasNodeCause (removal_of self.old s.inode) (is_full self.old) why) }
     {
         let full = self.is_full();
         if let Some(why) = self.refusal(s.inode.get(), full) {

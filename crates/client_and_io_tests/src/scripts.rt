@@ -2,7 +2,7 @@
 
 ghost use Rattle.std.specs.Prelude.{◌≡◌, ◌≤◌, None, length, All, IfOk};
 ghost use Rattle.client_core.specs.Awaiting.{Awaits};
-ghost use Rattle.client_core.specs.Client.{Fits};
+ghost use Rattle.client_core.specs.Client.{FitsClient};
 ghost use Rattle.client_core.specs.Plans.{IsOp, IsPlace};
 
 use client_core::{ClientAnswer, ClientAsk, ClientState, Op, Script};
@@ -84,7 +84,7 @@ fn outcome(alloc: Global, number: u64) -> Result<Outcome, Memory> {
 }
 
 fn next(client: &mut ClientState, answer: ClientAnswer) -> Result<ClientAsk, Memory>
-    requires { Fits client.old.request answer }
+    requires { FitsClient client.old.request answer }
     ensures { IfOk result (λ ask. Awaits client.new.request ask) }
 {
     let ask = client.next(answer)?;

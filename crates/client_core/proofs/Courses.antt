@@ -8,8 +8,8 @@ use Rattle.txn_task.specs.declared.outcome.Outcome.{Outcome}
 use Rattle.txn_task.specs.declared.outcome.Receipt.{Receipt}
 use Rattle.client_core.specs.Client.{ClientView, client_step, end_call, new_client, send}
 use Rattle.client_core.specs.Courses.{Course, IsFrom, AreNumbered, after_course, after_courses, gone_at, receipts_along}
-use Rattle.client_core.specs.Courses.{receipts_in, replied, sent_again}
-use Rattle.client_core.specs.Moved.{gone_from, moved}
+use Rattle.client_core.specs.Courses.{receipts_of_ask, replied, sent_again}
+use Rattle.client_core.specs.Moved.{gone_from, server_after_stops}
 use Rattle.client_core.specs.Plans.{IsScript}
 use Rattle.client_core.specs.declared.messages.ClientAnswer.TheVariants as answers
 use Rattle.client_core.specs.declared.messages.ClientAsk.{ClientAsk}
@@ -28,13 +28,13 @@ after_push c (first ∷ courses) one = after_push (after_course c first).0 cours
 
 pub along_push : (c : ClientView) (courses : List Course) (one : Course)
     → receipts_along c (courses ++ one ∷ [])
-    ≡ receipts_along c courses ++ receipts_in (after_course (after_courses c courses) one).1
-along_push c [] one = append-nil (receipts_in (after_course c one).1)
+    ≡ receipts_along c courses ++ receipts_of_ask (after_course (after_courses c courses) one).1
+along_push c [] one = append-nil (receipts_of_ask (after_course c one).1)
 along_push c (first ∷ courses) one =
-    let told : List Receipt = receipts_in (after_course c first).1 in
+    let told : List Receipt = receipts_of_ask (after_course c first).1 in
     let next : ClientView = (after_course c first).0 in
     ap (λ (rs : List Receipt). told ++ rs) (along_push next courses one)
-    ∙ sym (append_assoc told (receipts_along next courses) (receipts_in (after_course (after_courses next courses) one).1))
+    ∙ sym (append_assoc told (receipts_along next courses) (receipts_of_ask (after_course (after_courses next courses) one).1))
 
 pub again_push : (stops : List ℕ) (stop : ℕ) (sent : ClientView × ClientAsk)
     → sent_again (stops ++ stop ∷ []) sent
@@ -75,7 +75,7 @@ module _ (C : Settings) (script : Script) where
 
       there_is : (step : Op) → slice_get script.ops h.op ≡ Some step → IsOnWay h.op c request
       there_is step there =
-          let last : ℕ = moved C h.server from.0 in
+          let last : ℕ = server_after_stops C h.server from.0 in
           let gone : List (ℕ × ℕ) = gone_from C h.server from.0 in
           let both : sent_at C script last gone h.op step ≡ (c, asks.Send c.server request)
           = sym (again_there C script from.0 h.server [] h.op step) ∙ sends (Some step) there in
@@ -107,11 +107,11 @@ module _ (C : Settings) (script : Script) where
   numbered_at [] server op = refl
   numbered_at (course ∷ courses) server op = elim (there_or_end C script script.ops op) [
     | inl there ↦
-        subst (λ (p : ClientView × ClientAsk). AreNumbered op (receipts_in p.1 ++ receipts_along p.0 courses) (after_courses p.0 courses).op)
+        subst (λ (p : ClientView × ClientAsk). AreNumbered op (receipts_of_ask p.1 ++ receipts_along p.0 courses) (after_courses p.0 courses).op)
         (sym (answered_there C script server op there.0 course there.1))
-        (refl, refl, numbered_at courses (moved C server course.stops) (op + 1))
+        (refl, refl, numbered_at courses (server_after_stops C server course.stops) (op + 1))
     | inr end ↦
-        subst (λ (p : ClientView × ClientAsk). AreNumbered op (receipts_in p.1 ++ receipts_along p.0 courses) (after_courses p.0 courses).op)
+        subst (λ (p : ClientView × ClientAsk). AreNumbered op (receipts_of_ask p.1 ++ receipts_along p.0 courses) (after_courses p.0 courses).op)
         (sym (answered_end C script server op course end))
         (numbered_at courses server op)
   ]

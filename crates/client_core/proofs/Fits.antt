@@ -10,7 +10,7 @@ use Rattle.fs_base.specs.declared.call.Changes.{Changes}
 use Rattle.fs_base.specs.declared.call.Place.{Place}
 use Rattle.fs_base.specs.declared.layout.DefaultLayout.{DefaultLayout}
 use Rattle.row_records.specs.Calls.{place, default_layout, made, changes, call, stamped_call, is_call}
-use Rattle.client_core.specs.Plans.{IsOp, IsPlace, IsLayout, IsChanges}
+use Rattle.client_core.specs.Plans.{IsOp, IsPlace, IsGivenLayout, IsChanges}
 use Rattle.client_core.specs.declared.plan.Op.{Op}
 use Rattle.client_core.specs.declared.plan.Op.TheVariants as ops
 use Rattle.fs_base.specs.Config.{Settings}
@@ -89,15 +89,15 @@ place_fits : (p : Place) → IsPlace p → are_bytes p.text ≡ true → place.f
 unfolding place
 place_fits p h are = and_from (inode_id.fits p.base) (text.fits p.text) (inode_fits p.base h.base_below) (text_fits p.text h.text_short are)
 
-layout_fits : (l : DefaultLayout) → IsLayout l → default_layout.fits l ≡ true
+layout_fits : (l : DefaultLayout) → IsGivenLayout l → default_layout.fits l ≡ true
 unfolding default_layout
 layout_fits l h = and_from (number_4.fits l.chunk) (number_2.fits l.stripe) (fits_4 l.chunk h.chunk_below) (fits_2 l.stripe h.stripe_below)
 
-layout_if : (o : Option DefaultLayout) → IfSome o IsLayout → (optional default_layout).fits o ≡ true
+layout_if : (o : Option DefaultLayout) → IfSome o IsGivenLayout → (optional default_layout).fits o ≡ true
 layout_if None h = optional_fits default_layout None tt
 layout_if (Some l) h = optional_fits default_layout (Some l) (layout_fits l h)
 
-made_fits : (p : Place) (m : ℕ) (o : Option DefaultLayout) → IsPlace p → are_bytes p.text ≡ true → m < 4096 → IfSome o IsLayout → made.fits (p, (m, o)) ≡ true
+made_fits : (p : Place) (m : ℕ) (o : Option DefaultLayout) → IsPlace p → are_bytes p.text ≡ true → m < 4096 → IfSome o IsGivenLayout → made.fits (p, (m, o)) ≡ true
 unfolding made
 made_fits p m o h are small l = and_from (place.fits p) (mode.fits m && (optional default_layout).fits o) (place_fits p h are) (and_from (mode.fits m) ((optional default_layout).fits o) (mode_fits m small) (layout_if o l))
 

@@ -7,8 +7,8 @@ use Rattle.std.proofs.Math.Nat.{mod-add-mod, mod-eq_of_lt}
 use Rattle.fs_base.specs.Config.{Settings}
 use Rattle.fs_base.specs.declared.call.Request.{Request}
 use Rattle.txn_task.specs.declared.outcome.Outcome.{Outcome}
-use Rattle.client_core.specs.Client.{ClientView, client_step, end_call, new_client, send, send_again, sent_to, server_after, Fits}
-use Rattle.client_core.specs.Moved.{IsAtPlace, IsInScript, moved}
+use Rattle.client_core.specs.Client.{ClientView, client_step, end_call, new_client, send, send_again, sent_to, server_after, FitsClient}
+use Rattle.client_core.specs.Moved.{IsAtPlace, IsInScript, server_after_stops}
 use Rattle.client_core.specs.Ops.{request_of}
 use Rattle.client_core.specs.Plans.{IsScript}
 use Rattle.client_core.specs.declared.messages.ClientAnswer.{ClientAnswer}
@@ -21,12 +21,12 @@ use Rattle.client_core.specs.declared.plan.Script.{Script}
 pub after_below : (C : Settings) (server : ℕ) → server < C.servers → server_after C server < C.servers
 after_below C server l = mod_below (server + 1) C.servers (omega arith)
 
-pub moved_below : (C : Settings) (server : ℕ) (stops : List ℕ) → server < C.servers → moved C server stops < C.servers
+pub moved_below : (C : Settings) (server : ℕ) (stops : List ℕ) → server < C.servers → server_after_stops C server stops < C.servers
 moved_below C server [] l = l
 moved_below C server (stop ∷ stops) l = moved_below C (server_after C server) stops (after_below C server l)
 
 -- one server on for each stop
-pub moved_count : (C : Settings) (server : ℕ) (stops : List ℕ) → server < C.servers → moved C server stops ≡ (server + length stops) % C.servers
+pub moved_count : (C : Settings) (server : ℕ) (stops : List ℕ) → server < C.servers → server_after_stops C server stops ≡ (server + length stops) % C.servers
 moved_count C server [] l =
     let same : server + 0 ≡ server = omega arith in
     sym (mod-eq_of_lt l) ∙ ap (λ n. n % C.servers) (sym same)
@@ -64,14 +64,14 @@ in_script_again c stop (Some request) is h =
       place = (at.0, at.1, ap (λ (q : Request). sent_to q (server_after c.config c.server)) at.2, at.3);
     }
 
-idle_by : (o : Option Request) (answer : ClientAnswer) → Fits o answer → (answer ≡ answers.Start → o ≡ None) × (answer ≡ answers.Next → o ≡ None)
+idle_by : (o : Option Request) (answer : ClientAnswer) → FitsClient o answer → (answer ≡ answers.Start → o ≡ None) × (answer ≡ answers.Next → o ≡ None)
 idle_by None answer fits = (λ e. refl, λ e. refl)
 idle_by (Some request) answers.Start fits = absurd fits
 idle_by (Some request) answers.Next fits = absurd fits
 idle_by (Some request) (answers.Replied server outcome) fits = (λ e. absurd (cc), λ e. absurd (cc))
 idle_by (Some request) (answers.Gone server stop) fits = (λ e. absurd (cc), λ e. absurd (cc))
 
-pub in_script_step : (c : ClientView) (answer : ClientAnswer) → IsInScript c → Fits c.request answer → IsInScript (client_step c answer).0
+pub in_script_step : (c : ClientView) (answer : ClientAnswer) → IsInScript c → FitsClient c.request answer → IsInScript (client_step c answer).0
 in_script_step c (answers.Replied server outcome) h fits = in_script_end c server outcome c.request refl h
 in_script_step c (answers.Gone server stop) h fits = in_script_again c (server, stop) c.request refl h
 in_script_step c answers.Start h fits = in_script_send c (slice_get c.script.ops c.op) refl h ((idle_by c.request answers.Start fits).0 refl)

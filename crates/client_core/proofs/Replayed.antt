@@ -7,7 +7,7 @@ use Rattle.fs_base.specs.declared.call.Request.{Request}
 use Rattle.txn_task.specs.declared.outcome.Receipt.{Receipt}
 use Rattle.client_core.specs.Client.{ClientView, client_step, send, server_after}
 use Rattle.client_core.specs.Courses.{Course, after_course, after_courses, replied, sent_again}
-use Rattle.client_core.specs.Moved.{IsInScript, gone_from, moved}
+use Rattle.client_core.specs.Moved.{IsInScript, gone_from, server_after_stops}
 use Rattle.client_core.specs.Ops.{receipt_of, request_of}
 use Rattle.client_core.specs.Plans.{IsScript}
 use Rattle.client_core.specs.declared.messages.ClientAnswer.TheVariants as answers
@@ -34,18 +34,18 @@ module _ (C : Settings) (script : Script) where
   -- the receipt of a request's whole course
   abbrev pub course_receipt : ℕ → ℕ → Op → Course → Receipt
   course_receipt server op step course =
-      let last = moved C server course.stops in receipt_of op (request_at last op step) last (gone_from C server course.stops) course.outcome
+      let last = server_after_stops C server course.stops in receipt_of op (request_at last op step) last (gone_from C server course.stops) course.outcome
 
   pub again_there : (stops : List ℕ) (server : ℕ) (gone : List (ℕ × ℕ)) (op : ℕ) (step : Op)
-      → sent_again stops (sent_at server gone op step) ≡ sent_at (moved C server stops) (gone ++ gone_from C server stops) op step
+      → sent_again stops (sent_at server gone op step) ≡ sent_at (server_after_stops C server stops) (gone ++ gone_from C server stops) op step
   again_there [] server gone op step = ap (λ (g : List (ℕ × ℕ)). sent_at server g op step) (sym (append-nil gone))
   again_there (stop ∷ stops) server gone op step =
       let next : ℕ = server_after C server in
       again_there stops next (gone ++ (server, stop) ∷ []) op step
-      ∙ ap (λ (g : List (ℕ × ℕ)). sent_at (moved C next stops) g op step) (append_assoc gone ((server, stop) ∷ []) (gone_from C next stops))
+      ∙ ap (λ (g : List (ℕ × ℕ)). sent_at (server_after_stops C next stops) g op step) (append_assoc gone ((server, stop) ∷ []) (gone_from C next stops))
 
   pub answered_there : (server op : ℕ) (step : Op) (course : Course) → slice_get script.ops op ≡ Some step
-      → after_course (client_at server op) course ≡ (client_at (moved C server course.stops) (op + 1), asks.CallEnd (course_receipt server op step course ∷ []) true)
+      → after_course (client_at server op) course ≡ (client_at (server_after_stops C server course.stops) (op + 1), asks.CallEnd (course_receipt server op step course ∷ []) true)
   answered_there server op step course there =
       let sends : client_step (client_at server op) answers.Next ≡ sent_at server [] op step = ap (send (client_at server op)) there in
       ap (λ (p : ClientView × ClientAsk). replied course.outcome (sent_again course.stops p)) sends
@@ -89,7 +89,7 @@ module _ (C : Settings) (script : Script) where
         (let within : h.op < length script.ops = slice_get_within script.ops h.op there.0 there.1 in
         record {
           op = h.op + 1;
-          server = moved C h.server course.stops;
+          server = server_after_stops C h.server course.stops;
           is = ap (λ (v : ClientView). (after_course v course).0) h.is
               ∙ ap (λ (p : ClientView × ClientAsk). p.0) (answered_there h.server h.op there.0 course there.1);
           below = moved_below C h.server course.stops h.below;

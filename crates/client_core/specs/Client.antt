@@ -44,12 +44,12 @@ new_client C script =
 -- ---- answers
 
 -- the answer is one for what the client waits for
-abbrev pub Fits : Option Request → ClientAnswer → Type 0
-Fits None answers.Start = Unit {0}
-Fits None answers.Next = Unit {0}
-Fits (Some request) (answers.Replied server outcome) = Unit {0}
-Fits (Some request) (answers.Gone server stop) = Unit {0}
-Fits under_way answer = ⊥
+abbrev pub FitsClient : Option Request → ClientAnswer → Type 0
+FitsClient None answers.Start = Unit {0}
+FitsClient None answers.Next = Unit {0}
+FitsClient (Some request) (answers.Replied server outcome) = Unit {0}
+FitsClient (Some request) (answers.Gone server stop) = Unit {0}
+FitsClient under_way answer = ⊥
 
 -- ---- steps
 

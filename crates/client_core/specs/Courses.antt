@@ -30,9 +30,9 @@ abbrev pub reply_to : ClientAsk → Outcome → ClientAnswer
 reply_to (asks.Send server request) outcome = answers.Replied server outcome
 reply_to ask outcome = answers.Next
 
-abbrev pub receipts_in : ClientAsk → List Receipt
-receipts_in (asks.CallEnd receipts op_ends) = receipts
-receipts_in ask = []
+abbrev pub receipts_of_ask : ClientAsk → List Receipt
+receipts_of_ask (asks.CallEnd receipts op_ends) = receipts
+receipts_of_ask ask = []
 
 -- and the client once it is answered
 abbrev pub replied : Outcome → ClientView × ClientAsk → ClientView × ClientAsk
@@ -51,7 +51,7 @@ after_courses c (course ∷ courses) = after_courses (after_course c course).0 c
 abbrev pub receipts_along : ClientView → List Course → List Receipt
 receipts_along c [] = []
 receipts_along c (course ∷ courses) =
-    receipts_in (after_course c course).1 ++ receipts_along (after_course c course).0 courses
+    receipts_of_ask (after_course c course).1 ++ receipts_along (after_course c course).0 courses
 
 -- a client that went on from where it was at rest: it rests there still, or its next request is under way, sent
 -- again once for each of these stops

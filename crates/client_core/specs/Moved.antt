@@ -11,9 +11,9 @@ use Rattle.client_core.specs.declared.plan.Op.{Op}
 -- ---- ways
 
 -- where a client is once so many stops have moved it, one server on each time
-abbrev pub moved : Settings → ℕ → List ℕ → ℕ
-moved C server [] = server
-moved C server (stop ∷ stops) = moved C (server_after C server) stops
+abbrev pub server_after_stops : Settings → ℕ → List ℕ → ℕ
+server_after_stops C server [] = server
+server_after_stops C server (stop ∷ stops) = server_after_stops C (server_after C server) stops
 
 -- the stops on its way: each of the server where it was then
 abbrev pub gone_from : Settings → ℕ → List ℕ → List (ℕ × ℕ)

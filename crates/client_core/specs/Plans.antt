@@ -12,31 +12,31 @@ use Rattle.client_core.specs.declared.plan.Schedule.TheVariants.{Items}
 use Rattle.client_core.specs.declared.plan.Script.{Script}
 
 -- below the limit where it is given
-abbrev pub IsBelow : ℕ → Option ℕ → Type 0
-IsBelow limit given = IfSome given (λ n. n < limit)
+abbrev pub IsGivenBelow : ℕ → Option ℕ → Type 0
+IsGivenBelow limit given = IfSome given (λ n. n < limit)
 
 pub record IsPlace (place : Place) : Type 0 where
   pub base_below : place.base < INODE_IDS
   pub text_short : length place.text ≤ TEXT_BYTES
 
 -- no limits of a layout but those of its numbers: BadLayout is the call's own answer
-pub record IsLayout (layout : DefaultLayout) : Type 0 where
+pub record IsGivenLayout (layout : DefaultLayout) : Type 0 where
   pub chunk_below : layout.chunk < 2 ^ 32
   pub stripe_below : layout.stripe < 2 ^ 16
 
 pub record IsChanges (changes : Changes) : Type 0 where
-  pub mode_below : IsBelow MODES changes.mode
-  pub owner_below : IsBelow (2 ^ 32) changes.owner
-  pub group_below : IsBelow (2 ^ 32) changes.group
-  pub atime_below : IsBelow TIMES changes.atime
-  pub mtime_below : IsBelow TIMES changes.mtime
+  pub mode_below : IsGivenBelow MODES changes.mode
+  pub owner_below : IsGivenBelow (2 ^ 32) changes.owner
+  pub group_below : IsGivenBelow (2 ^ 32) changes.group
+  pub atime_below : IsGivenBelow TIMES changes.atime
+  pub mtime_below : IsGivenBelow TIMES changes.mtime
 
 -- each number and text is in its range
 abbrev pub IsOp : Op → Type 0
 IsOp (ops.Mkdir stamp place mode layout) =
-    (stamp < TIMES) × IsPlace place × (mode < MODES) × IfSome layout IsLayout
+    (stamp < TIMES) × IsPlace place × (mode < MODES) × IfSome layout IsGivenLayout
 IsOp (ops.Create stamp place mode layout) =
-    (stamp < TIMES) × IsPlace place × (mode < MODES) × IfSome layout IsLayout
+    (stamp < TIMES) × IsPlace place × (mode < MODES) × IfSome layout IsGivenLayout
 IsOp (ops.Symlink stamp place target) = (stamp < TIMES) × IsPlace place × (length target ≤ TEXT_BYTES)
 IsOp (ops.Setattr stamp place changes) = (stamp < TIMES) × IsPlace place × IsChanges changes
 IsOp (ops.Link stamp from to) = (stamp < TIMES) × IsPlace from × IsPlace to

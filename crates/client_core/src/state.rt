@@ -1,6 +1,6 @@
 ghost use Rattle.std.specs.Prelude.{◌≡◌, ◌<◌, None, false, true, option_map, slice_get, IfOk, IfSome, OnOk, OnErr};
 ghost use Rattle.client_core.specs.Awaiting.{Awaits};
-ghost use Rattle.client_core.specs.Client.{client_step, end_call, has_ended, new_client, next_request, send, send_again, server_after, Fits, IsSending};
+ghost use Rattle.client_core.specs.Client.{client_step, end_call, has_ended, new_client, next_request, send, send_again, server_after, FitsClient, IsSending};
 ghost use Rattle.client_core.specs.Plans.{IsScript};
 ghost use Rattle.path_walk.specs.Requests.{IsRequest};
 
@@ -86,7 +86,7 @@ impl ClientState {
     ///
     /// A client that had no memory for it answers want of memory from then on: what it was answered is lost.
     pub fn next(&mut self, answer: ClientAnswer) -> Result<ClientAsk, Memory>
-        requires { Fits self.old.request answer }
+        requires { FitsClient self.old.request answer }
         ensures alive { OnOk result (self.old.failed ≡ false) }
         ensures client { OnOk result (self.new ≡ (client_step self.old answer).0) }
         ensures ask { IfOk result (λ ask. ask ≡ (client_step self.old answer).1) }
@@ -104,7 +104,7 @@ impl ClientState {
     }
 
     fn step(&mut self, answer: ClientAnswer) -> Result<ClientAsk, Memory>
-        requires { Fits self.old.request answer }
+        requires { FitsClient self.old.request answer }
         ensures client { OnOk result (self.new ≡ (client_step self.old answer).0) }
         ensures ask { IfOk result (λ ask. ask ≡ (client_step self.old answer).1) }
         ensures valid { IfOk result (λ ask. IsSending self.old.config ask) }

@@ -8,7 +8,7 @@ use Rattle.std.specs.declared.cmp.Ordering.TheVariants.{Less, Equal, Greater}
 use Rattle.std.proofs.lemmas.Bool.{and_cases, or_parts, eqb-true}
 use Rattle.conflict_sets.specs.Keys.{key_cmp}
 use Rattle.conflict_sets.specs.Rows.{KeysAbove, KeysBefore, IsAscending, is_inside, rows_between, with_write, with_writes}
-use Rattle.conflict_sets.specs.Reads.{KeysAgree, RangesAgree, Agrees, is_up_to_last, range_holds, reads_hold, first_held}
+use Rattle.conflict_sets.specs.Reads.{KeysAgree, RangesAgree, RowsAgree, is_up_to_last, range_holds, reads_hold, first_held}
 use Rattle.fs_base.specs.declared.row.Row.{Row}
 use Rattle.conflict_sets.specs.declared.sets.Write.{Write}
 use Rattle.conflict_sets.specs.declared.sets.KeyRead.{KeyRead}
@@ -128,7 +128,7 @@ ranges_kept (read ∷ reads) k v rows a n h =
     (range_kept read k v rows a parts.0 h.0, ranges_kept reads k v rows a parts.1 h.1)
 
 -- reads that don't hold a key still agree after its write
-pub Agrees-with_write : (reads : ReadSet) (k : List ℕ) (v : Option (List ℕ)) (rows : List Row) → IsAscending rows → reads_hold reads k ≡ false → Agrees rows reads → Agrees (with_write k v rows) reads
+pub Agrees-with_write : (reads : ReadSet) (k : List ℕ) (v : Option (List ℕ)) (rows : List Row) → IsAscending rows → reads_hold reads k ≡ false → RowsAgree rows reads → RowsAgree (with_write k v rows) reads
 Agrees-with_write reads k v rows a n h =
     let parts : (list_any (λ (r : KeyRead). is_eq (key_cmp k r.key)) reads.keys ≡ false) × (list_any (λ (r : RangeRead). range_holds r k) reads.ranges ≡ false) = or_parts _ _ n in
     record { keys = keys_kept reads.keys k v rows parts.0 h.keys; ranges = ranges_kept reads.ranges k v rows a parts.1 h.ranges }
@@ -142,7 +142,7 @@ none_held reads w writes h = split (reads_hold reads w.key) w.key (first_held re
     split false k o h = (refl, h)
 
 -- Reads of which no written key is held agree with the rows after the writes.
-pub Agrees-with_writes : (reads : ReadSet) (rows : List Row) (writes : List Write) → IsAscending rows → first_held reads writes ≡ None → Agrees rows reads → Agrees (with_writes rows writes) reads
+pub Agrees-with_writes : (reads : ReadSet) (rows : List Row) (writes : List Write) → IsAscending rows → first_held reads writes ≡ None → RowsAgree rows reads → RowsAgree (with_writes rows writes) reads
 Agrees-with_writes reads rows [] a n h = h
 Agrees-with_writes reads rows (w ∷ writes) a n h =
     let parts : (reads_hold reads w.key ≡ false) × (first_held reads writes ≡ None) = none_held reads w writes n in

@@ -4,7 +4,7 @@ use Rattle.std.specs.Prelude.{filter}
 use Rattle.std.specs.Ordering.{is_eq}
 use Rattle.std.specs.declared.cmp.Ordering.TheVariants.{Less, Equal, Greater}
 use Rattle.conflict_sets.specs.Keys.{key_cmp}
-use Rattle.conflict_sets.specs.Rows.{KeysAbove, IsAscending, value_at_key, is_inside, new_row, with_write, with_writes}
+use Rattle.conflict_sets.specs.Rows.{KeysAbove, IsAscending, value_at_key, is_inside, row_if_some, with_write, with_writes}
 use Rattle.fs_base.specs.declared.row.Row.{Row}
 use Rattle.conflict_sets.specs.declared.sets.Write.{Write}
 use Rattle.conflict_sets.proofs.KeyOrder.{key_exact, key_self, key_greater_flips, key_trans}
@@ -20,10 +20,10 @@ value_below key [] h = refl
 value_below key (row ∷ rows) h = rw h.0 (value_below key rows h.1)
 
 -- with_write, by where the key stands
-pub with_write_less : (k : List ℕ) (v : Option (List ℕ)) (row : Row) (rows : List Row) → key_cmp k row.key ≡ Less → with_write k v (row ∷ rows) ≡ new_row k v ++ (row ∷ rows)
+pub with_write_less : (k : List ℕ) (v : Option (List ℕ)) (row : Row) (rows : List Row) → key_cmp k row.key ≡ Less → with_write k v (row ∷ rows) ≡ row_if_some k v ++ (row ∷ rows)
 with_write_less k v row rows h = rw h refl
 
-pub with_write_equal : (k : List ℕ) (v : Option (List ℕ)) (row : Row) (rows : List Row) → key_cmp k row.key ≡ Equal → with_write k v (row ∷ rows) ≡ new_row k v ++ rows
+pub with_write_equal : (k : List ℕ) (v : Option (List ℕ)) (row : Row) (rows : List Row) → key_cmp k row.key ≡ Equal → with_write k v (row ∷ rows) ≡ row_if_some k v ++ rows
 with_write_equal k v row rows h = rw h refl
 
 pub with_write_greater : (k : List ℕ) (v : Option (List ℕ)) (row : Row) (rows : List Row) → key_cmp k row.key ≡ Greater → with_write k v (row ∷ rows) ≡ row ∷ with_write k v rows
@@ -34,7 +34,7 @@ pub by_place : (P : Type 0) (a b : List ℕ) → (key_cmp a b ≡ Less → P) �
 by_place P a b less equal greater =
     (elim (key_cmp a b) as (λ o. key_cmp a b ≡ o → P) [ Less ↦ less | Equal ↦ equal | Greater ↦ greater ]) refl
 
-above_new : (a k : List ℕ) (v : Option (List ℕ)) (rows : List Row) → key_cmp a k ≡ Less → KeysAbove a rows → KeysAbove a (new_row k v ++ rows)
+above_new : (a k : List ℕ) (v : Option (List ℕ)) (rows : List Row) → key_cmp a k ≡ Less → KeysAbove a rows → KeysAbove a (row_if_some k v ++ rows)
 above_new a k None rows l h = h
 above_new a k (Some v) rows l h = (l, h)
 
@@ -47,7 +47,7 @@ KeysAbove-with_write a k v (row ∷ rows) l h =
     (λ e. rw (with_write_equal k v row rows e) (above_new a k v rows l h.1))
     (λ e. rw (with_write_greater k v row rows e) (h.0, KeysAbove-with_write a k v rows l h.1))
 
-ascending_new : (k : List ℕ) (v : Option (List ℕ)) (rows : List Row) → KeysAbove k rows → IsAscending rows → IsAscending (new_row k v ++ rows)
+ascending_new : (k : List ℕ) (v : Option (List ℕ)) (rows : List Row) → KeysAbove k rows → IsAscending rows → IsAscending (row_if_some k v ++ rows)
 ascending_new k None rows l h = h
 ascending_new k (Some v) rows l h = (l, h)
 
@@ -65,7 +65,7 @@ IsAscending-with_writes rows [] h = h
 IsAscending-with_writes rows (w ∷ writes) h = IsAscending-with_writes (with_write w.key w.value rows) writes (IsAscending-with_write w.key w.value rows h)
 
 -- the value of another key stays
-other_new : (k q : List ℕ) (v : Option (List ℕ)) (rows : List Row) → is_eq (key_cmp q k) ≡ false → value_at_key (new_row k v ++ rows) q ≡ value_at_key rows q
+other_new : (k q : List ℕ) (v : Option (List ℕ)) (rows : List Row) → is_eq (key_cmp q k) ≡ false → value_at_key (row_if_some k v ++ rows) q ≡ value_at_key rows q
 other_new k q None rows n = refl
 other_new k q (Some v) rows n = rw n refl
 
@@ -79,7 +79,7 @@ value-with_write_other k q v (row ∷ rows) n =
     (λ e. rw (with_write_equal k v row rows e) (other_new k q v rows n ∙ sym (rw (← key_exact k row.key e) (rw n refl))))
     (λ e. rw (with_write_greater k v row rows e) (ap (cond (is_eq (key_cmp q row.key)) (Some row.value)) (value-with_write_other k q v rows n)))
 
-same_new : (k : List ℕ) (v : Option (List ℕ)) (rows : List Row) → KeysAbove k rows → value_at_key (new_row k v ++ rows) k ≡ v
+same_new : (k : List ℕ) (v : Option (List ℕ)) (rows : List Row) → KeysAbove k rows → value_at_key (row_if_some k v ++ rows) k ≡ v
 same_new k None rows h = value_below k rows h
 same_new k (Some v) rows h = rw (key_self k) refl
 
@@ -103,7 +103,7 @@ value-with_write k q v rows h =
     ]) refl
 
 -- a range that doesn't have the key stays
-filter_new : (lo hi k : List ℕ) (v : Option (List ℕ)) (rows : List Row) → is_inside lo hi k ≡ false → filter (λ (row : Row). is_inside lo hi row.key) (new_row k v ++ rows) ≡ filter (λ (row : Row). is_inside lo hi row.key) rows
+filter_new : (lo hi k : List ℕ) (v : Option (List ℕ)) (rows : List Row) → is_inside lo hi k ≡ false → filter (λ (row : Row). is_inside lo hi row.key) (row_if_some k v ++ rows) ≡ filter (λ (row : Row). is_inside lo hi row.key) rows
 filter_new lo hi k None rows n = refl
 filter_new lo hi k (Some v) rows n = rw n refl
 

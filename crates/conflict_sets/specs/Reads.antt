@@ -22,7 +22,7 @@ RangesAgree rows (read ∷ reads) =
     (rows_between rows read.lo read.hi read.limit ≡ read.rows) × RangesAgree rows reads
 
 -- the rows give what was read
-pub record Agrees (rows : List Row) (reads : ReadSet) : Type 0 where
+pub record RowsAgree (rows : List Row) (reads : ReadSet) : Type 0 where
   pub keys : KeysAgree rows reads.keys
   pub ranges : RangesAgree rows reads.ranges
 

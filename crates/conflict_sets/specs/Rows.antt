@@ -36,21 +36,21 @@ abbrev pub rows_between : List Row → List ℕ → List ℕ → ℕ → List Ro
 rows_between rows lo hi limit = take limit (filter (λ row. is_inside lo hi row.key) rows)
 
 -- the row of a key that has a value
-abbrev pub new_row : List ℕ → Option (List ℕ) → List Row
-new_row key None = []
-new_row key (Some value) = record { key = key; value = value } ∷ []
+abbrev pub row_if_some : List ℕ → Option (List ℕ) → List Row
+row_if_some key None = []
+row_if_some key (Some value) = record { key = key; value = value } ∷ []
 
 -- before the row, in its place, or after it
-abbrev pub placed : Ordering → List ℕ → Option (List ℕ) → Row → List Row → List Row → List Row
-placed Less key value row rows later = new_row key value ++ (row ∷ rows)
-placed Equal key value row rows later = new_row key value ++ rows
-placed Greater key value row rows later = row ∷ later
+abbrev pub placed_row : Ordering → List ℕ → Option (List ℕ) → Row → List Row → List Row → List Row
+placed_row Less key value row rows later = row_if_some key value ++ (row ∷ rows)
+placed_row Equal key value row rows later = row_if_some key value ++ rows
+placed_row Greater key value row rows later = row ∷ later
 
 -- the rows with one key set or removed
 abbrev pub with_write : List ℕ → Option (List ℕ) → List Row → List Row
-with_write key value [] = new_row key value
+with_write key value [] = row_if_some key value
 with_write key value (row ∷ rows) =
-    placed (key_cmp key row.key) key value row rows (with_write key value rows)
+    placed_row (key_cmp key row.key) key value row rows (with_write key value rows)
 
 -- the rows after these writes
 abbrev pub with_writes : List Row → List Write → List Row

@@ -10,7 +10,7 @@ pub trait EntryLaw: Drop {
     ghost use Rattle.fs_base.specs.Config.{Settings};
     ghost use Rattle.fs_base.specs.declared.row.Row.{Row};
     ghost use Rattle.conflict_sets.specs.Rows.{IsAscending, with_writes};
-    ghost use Rattle.conflict_sets.specs.Reads.{Agrees};
+    ghost use Rattle.conflict_sets.specs.Reads.{RowsAgree};
     ghost use Rattle.conflict_sets.specs.declared.sets.ReadSet.{ReadSet};
     ghost use Rattle.conflict_sets.specs.declared.sets.WriteSet.{WriteSet};
 
@@ -35,5 +35,5 @@ pub trait EntryLaw: Drop {
         ensures { result.now ≡ writes_of self.now };
 
     /// A sound entry leads good rows that agree with its reads to good rows.
-    ghost keeps_good: { (config : Settings) (entry : Self) (rows : List Row) → IsAscending rows → sound config entry → good config rows → Agrees rows (reads_of entry) → good config (with_writes rows (writes_of entry).writes) };
+    ghost keeps_good: { (config : Settings) (entry : Self) (rows : List Row) → IsAscending rows → sound config entry → good config rows → RowsAgree rows (reads_of entry) → good config (with_writes rows (writes_of entry).writes) };
 }

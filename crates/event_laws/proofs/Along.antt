@@ -8,7 +8,7 @@ use Rattle.client_core.specs.declared.plan.Plan.{Plan}
 use Rattle.client_core.specs.declared.plan.Script.{Script}
 use Rattle.world_core.specs.EventList.{AreEvents, Event}
 use Rattle.seat_turns.specs.Seats.{new_seat, seats_of}
-use Rattle.world_core.specs.World.{HasGone, IsOpening, WorldView, plan_of}
+use Rattle.world_core.specs.World.{HasGone, IsOpening, WorldView, plan_of_world}
 use Rattle.seat_turns.specs.declared.seats.Seat.{Seat}
 use Rattle.event_laws.proofs.Places.{there}
 
@@ -43,6 +43,6 @@ module _ (P : List Event → ℕ → Seat → Type 0) (plan : Plan) (first : Wor
   along (event ∷ earlier) last h k seat at = one_more event earlier h.1 (λ j s at_s. along earlier event.before h.2 j s at_s) k seat (subst (λ (w : WorldView). slice_get w.seats k ≡ Some seat) (sym h.0) at)
 
 -- the plan stays
-pub plan_along : (first : WorldView) (events : List Event) (last : WorldView) → AreEvents first events last → plan_of last ≡ plan_of first
-plan_along first [] last h = ap plan_of h
-plan_along first (event ∷ earlier) last h = ap plan_of (sym h.0) ∙ (h.1.same_plan ∙ plan_along first earlier event.before h.2)
+pub plan_along : (first : WorldView) (events : List Event) (last : WorldView) → AreEvents first events last → plan_of_world last ≡ plan_of_world first
+plan_along first [] last h = ap plan_of_world h
+plan_along first (event ∷ earlier) last h = ap plan_of_world (sym h.0) ∙ (h.1.same_plan ∙ plan_along first earlier event.before h.2)

@@ -10,7 +10,7 @@ use Rattle.run_record.specs.declared.run.Listed.{Listed}
 use Rattle.request_run.specs.Entries.{entries_of}
 use Rattle.request_run.proofs.Rows.{length_entries}
 use Rattle.world_core.specs.EventList.{AreEvents, Event}
-use Rattle.seat_turns.specs.Kept.{IsSeat, version_after}
+use Rattle.seat_turns.specs.Kept.{IsSeat, newest_seen}
 use Rattle.world_core.specs.Objects.{IsStep, Objects}
 use Rattle.world_core.specs.World.{HasGone, WorldView}
 use Rattle.seat_turns.specs.declared.seats.Seat.{Seat}
@@ -35,7 +35,7 @@ event_grows event gone =
 
 -- ---- the last receipt
 
-last_seen : (floor : ℕ) (receipts : List Listed) (listed : Listed) → version_after floor (receipts ++ listed ∷ []) ≡ seen_by (outcome_of listed.receipt)
+last_seen : (floor : ℕ) (receipts : List Listed) (listed : Listed) → newest_seen floor (receipts ++ listed ∷ []) ≡ seen_by (outcome_of listed.receipt)
 last_seen floor [] listed = refl
 last_seen floor (first ∷ rest) listed = last_seen (seen_by (outcome_of first.receipt)) rest listed
 
@@ -49,8 +49,8 @@ module _ (event : Event) (listed : Listed) (gone : HasGone event.before event.af
 
   pub seen_within : seen_by (outcome_of listed.receipt) ≤ length event.after.objects.store.journal
   seen_within =
-      let within : version_after 0 told.later.receipts ≤ length (entries_of event.after.objects.store.journal) = seat_told.past.within in
-      let last : version_after 0 told.later.receipts ≡ seen_by (outcome_of listed.receipt) = ap (version_after 0) told.more ∙ last_seen 0 told.seat.receipts listed in
+      let within : newest_seen 0 told.later.receipts ≤ length (entries_of event.after.objects.store.journal) = seat_told.past.within in
+      let last : newest_seen 0 told.later.receipts ≡ seen_by (outcome_of listed.receipt) = ap (newest_seen 0) told.more ∙ last_seen 0 told.seat.receipts listed in
       let count : length (entries_of event.after.objects.store.journal) ≡ length event.after.objects.store.journal = length_entries event.after.objects.store.journal in
       omega arith
 

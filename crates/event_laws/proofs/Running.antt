@@ -3,7 +3,7 @@ use Rattle.std.proofs.Common.{◌≡◌, ℕ, zero, suc, ◌-◌, ◌<◌, ◌�
 use Rattle.std.specs.Prelude.{MatchBool, slice_get}
 use Rattle.world_core.specs.EventList.{AreEvents, Event}
 use Rattle.world_core.specs.Order.{AreItems, AreRounds, IsItem, IsRoundTo}
-use Rattle.world_core.specs.World.{AreTurns, HasGone, IsOpTurn, IsTurn, WorldView, items_of}
+use Rattle.world_core.specs.World.{AreTurns, HasGone, IsOpTurn, IsTurn, WorldView, schedule_items}
 use Rattle.world_core.specs.declared.world.Turn.{Turn}
 use Rattle.world_core.specs.declared.world.Turn.TheVariants as turns
 use Rattle.event_laws.specs.Laws.{RunsAreEvents}
@@ -72,4 +72,4 @@ of_rounds old new (suc count) h = both old h.0 new (of_rounds old h.0 count h.1)
 
 pub runs_happen : RunsAreEvents
 runs_happen old new h =
-    both old h.mid new (of_items (items_of old.schedule) old h.mid (length (items_of old.schedule)) (omega arith) h.items) (of_rounds h.mid new h.count h.rounds)
+    both old h.mid new (of_items (schedule_items old.schedule) old h.mid (length (schedule_items old.schedule)) (omega arith) h.items) (of_rounds h.mid new h.count h.rounds)

@@ -5,7 +5,7 @@ use Rattle.std.proofs.lemmas.Option.{same_Some, slice_get_within}
 use Rattle.fs_base.specs.Config.{Settings}
 use Rattle.key_schema.specs.Keys.{spelled_key}
 use Rattle.key_schema.specs.declared.key.Key.{Key}
-use Rattle.kv_store.specs.Later.{IsFirst, IsFirstLater}
+use Rattle.kv_store.specs.Later.{IsFirstConflict, IsFirstLater}
 use Rattle.kv_store.proofs.LaterLemmas.{first_later_first}
 use Rattle.txn_task.specs.declared.messages.Answer.{Answer}
 use Rattle.txn_task.specs.declared.messages.Answer.TheVariants as answers
@@ -27,7 +27,7 @@ use Rattle.seat_turns.specs.Ready.{is_done}
 use Rattle.seat_turns.specs.declared.seats.Seat.{Seat}
 use Rattle.event_laws.proofs.Places.{there}
 use Rattle.world_core.proofs.Closing.{same_seats}
-use Rattle.event_laws.specs.Laws.{BeginsAreFresh, ConflictsAreLater, ConflictsWereMet, EndsWith, EventsAsk, FrontsBeginCalls, IsLater, UncommittedRepliesAreBegun, UndisturbedAttemptsMeetNone}
+use Rattle.event_laws.specs.Laws.{BeginsAreFresh, ConflictsAreLater, ConflictsWereMet, IsNewestEvent, EventsAsk, FrontsBeginCalls, IsLaterWrite, UncommittedRepliesAreBegun, UndisturbedAttemptsMeetNone}
 use Rattle.event_laws.specs.Moments.{HasAsked, IsAmong, IsLengthAt, IsMetIn, begins_attempt, begins_call, is_begin}
 use Rattle.event_laws.proofs.Along.{plan_along}
 use Rattle.event_laws.proofs.Lengths.{same_length}
@@ -76,7 +76,7 @@ begins_fresh event answer a =
 
 -- ---- what the event had before it
 
-module _ (plan : Plan) (event : Event) (earlier : List Event) (ends : EndsWith plan event earlier) where
+module _ (plan : Plan) (event : Event) (earlier : List Event) (ends : IsNewestEvent plan event earlier) where
   since_at : (seat : Seat) → slice_get event.before.seats event.client ≡ Some seat → IsSeatSince earlier event.client seat
   since_at seat at = seats_since plan ends.first ends.opening earlier event.before ends.events.2 event.client seat at
 
@@ -141,7 +141,7 @@ module _ (plan : Plan) (event : Event) (earlier : List Event) (ends : EndsWith p
 
   -- ---- a conflict
 
-  conflict_by : (entry : Entry) (version : ℕ) (key : Key) → HasAsked event (asks.Commit entry) (answers.Conflict version key) → IsLater event earlier entry.reads version key
+  conflict_by : (entry : Entry) (version : ℕ) (key : Key) → HasAsked event (asks.Commit entry) (answers.Conflict version key) → IsLaterWrite event earlier entry.reads version key
   conflict_by entry version key a =
       let snapshot : ℕ = a.turn.exchanged.work.task.snapshot in
       let at_ask : IsAnswer event.before.config (journal_before event) (journal_after event) snapshot (asks.Commit entry) a.turn.exchanged.exchange.answer
@@ -153,7 +153,7 @@ module _ (plan : Plan) (event : Event) (earlier : List Event) (ends : EndsWith p
       let kept : a.turn.exchanged.task.snapshot ≡ snapshot
       = subst (λ (x : Ask). MatchBool (is_begin x) (a.turn.exchanged.task.snapshot ≡ length (journal_before event)) (a.turn.exchanged.task.snapshot ≡ snapshot)) a.ask_is told in
       let later : IsFirstLater writes_of (journal_before event) snapshot entry.reads version (spelled_key key)
-      = subst (λ (o : Option (ℕ × List ℕ)). IsFirst writes_of (journal_before event) snapshot entry.reads o) at_answer.1 (first_later_first writes_of (journal_before event) snapshot entry.reads) in
+      = subst (λ (o : Option (ℕ × List ℕ)). IsFirstConflict writes_of (journal_before event) snapshot entry.reads o) at_answer.1 (first_later_first writes_of (journal_before event) snapshot entry.reads) in
       let behind : snapshot ≤ later.place = later.later in
       let numbered : version ≡ later.place + 1 = later.numbered in
       let inside : later.place < length (journal_before event) = slice_get_within (journal_before event) later.place later.entry later.there in
@@ -180,7 +180,7 @@ conflicts_later plan event earlier entry version key ends a = conflict_by plan e
 
 pub undisturbed : UndisturbedAttemptsMeetNone
 undisturbed plan event earlier entry version key ends alone a =
-    let later : IsLater event earlier entry.reads version key = conflicts_later plan event earlier entry version key ends a in
+    let later : IsLaterWrite event earlier entry.reads version key = conflicts_later plan event earlier entry version key ends a in
     let same : later.snapshot ≡ length event.before.objects.store.journal = same_length (begins_attempt event.client) (event ∷ earlier) later.snapshot (length event.before.objects.store.journal) later.begun alone in
     let behind : later.snapshot < version = later.after in
     let within : version ≤ length event.before.objects.store.journal = later.within in

@@ -28,7 +28,7 @@ RunsAreEvents = (old new : WorldView) → IsOrdered old new → (events : List E
 
 -- A list of events since nothing had happened, of which this is the newest. Without the newest ones it is
 -- such a list too, so what holds of the newest event holds of each.
-pub record EndsWith (plan : Plan) (event : Event) (earlier : List Event) : Type 0 where
+pub record IsNewestEvent (plan : Plan) (event : Event) (earlier : List Event) : Type 0 where
   pub first : WorldView
   pub opening : IsOpening plan first
   pub events : AreEvents first (event ∷ earlier) event.after
@@ -60,7 +60,7 @@ BeginsAreFresh =
 -- storage nodes
 abbrev pub FrontsBeginCalls : Type 0
 FrontsBeginCalls =
-    (plan : Plan) (event : Event) (earlier : List Event) (listed : Listed) → EndsWith plan event earlier
+    (plan : Plan) (event : Event) (earlier : List Event) (listed : Listed) → IsNewestEvent plan event earlier
     → HasTold event listed
     → (front : ℕ) × IsLengthAt (begins_call event.client) (event ∷ earlier) front
     × (listed.fronts ≡ fronts_of plan.config front)
@@ -68,7 +68,7 @@ FrontsBeginCalls =
 -- what any client had learned before a call began isn't newer than the reply to the call
 abbrev pub RepliesRise : Type 0
 RepliesRise =
-    (plan : Plan) (event : Event) (earlier : List Event) (listed : Listed) → EndsWith plan event earlier
+    (plan : Plan) (event : Event) (earlier : List Event) (listed : Listed) → IsNewestEvent plan event earlier
     → HasTold event listed
     → (before : Event) (learned : Listed)
     → IsAmong before (events_before (begins_call event.client) (event ∷ earlier)) → HasTold before learned
@@ -77,7 +77,7 @@ RepliesRise =
 -- a reply that no entry has is of the journal's length at its request's last Begin
 abbrev pub UncommittedRepliesAreBegun : Type 0
 UncommittedRepliesAreBegun =
-    (plan : Plan) (event : Event) (earlier : List Event) (listed : Listed) → EndsWith plan event earlier
+    (plan : Plan) (event : Event) (earlier : List Event) (listed : Listed) → IsNewestEvent plan event earlier
     → HasTold event listed → listed.receipt.committed ≡ false
     → IsLengthAt (begins_attempt event.client) (event ∷ earlier) listed.receipt.version
 
@@ -87,11 +87,12 @@ UncommittedRepliesAreBegun =
 abbrev pub ConflictsWereMet : Type 0
 ConflictsWereMet =
     (plan : Plan) (event : Event) (earlier : List Event) (listed : Listed) (pair : ℕ × Key)
-    → EndsWith plan event earlier → HasTold event listed → IsAmong pair listed.receipt.conflicts
+    → IsNewestEvent plan event earlier → HasTold event listed → IsAmong pair listed.receipt.conflicts
     → IsMetIn event.client pair (event ∷ earlier)
 
 -- a conflict is the first later write of what was read, and later than the attempt's Begin
-pub record IsLater (event : Event) (earlier : List Event) (reads : ReadSet) (version : ℕ) (key : Key) : Type 0
+pub record IsLaterWrite (event : Event) (earlier : List Event) (reads : ReadSet) (version : ℕ)
+    (key : Key) : Type 0
   where
     pub snapshot : ℕ
     pub begun : IsLengthAt (begins_attempt event.client) (event ∷ earlier) snapshot
@@ -103,13 +104,13 @@ pub record IsLater (event : Event) (earlier : List Event) (reads : ReadSet) (ver
 abbrev pub ConflictsAreLater : Type 0
 ConflictsAreLater =
     (plan : Plan) (event : Event) (earlier : List Event) (entry : Entry) (version : ℕ) (key : Key)
-    → EndsWith plan event earlier → HasAsked event (asks.Commit entry) (answers.Conflict version key)
-    → IsLater event earlier entry.reads version key
+    → IsNewestEvent plan event earlier → HasAsked event (asks.Commit entry) (answers.Conflict version key)
+    → IsLaterWrite event earlier entry.reads version key
 
 -- an attempt meets none where the journal is as it was at the attempt's Begin
 abbrev pub UndisturbedAttemptsMeetNone : Type 0
 UndisturbedAttemptsMeetNone =
     (plan : Plan) (event : Event) (earlier : List Event) (entry : Entry) (version : ℕ) (key : Key)
-    → EndsWith plan event earlier
+    → IsNewestEvent plan event earlier
     → IsLengthAt (begins_attempt event.client) (event ∷ earlier) (length event.before.objects.store.journal)
     → HasAsked event (asks.Commit entry) (answers.Conflict version key) → ⊥

@@ -94,7 +94,7 @@ IsToldIn client listed (event ∷ earlier) =
     ((event.client ≡ client) × HasTold event listed) ⊎ IsToldIn client listed earlier
 
 -- an attempt of the client met this conflict
-pub record HasMet (client : ℕ) (pair : ℕ × Key) (event : Event) : Type 0 where
+pub record MeetsConflict (client : ℕ) (pair : ℕ × Key) (event : Event) : Type 0 where
   pub own : event.client ≡ client
   pub entry : Entry
   pub asked : HasAsked event (asks.Commit entry) (answers.Conflict pair.0 pair.1)
@@ -103,4 +103,4 @@ pub record HasMet (client : ℕ) (pair : ℕ × Key) (event : Event) : Type 0 wh
 abbrev pub IsMetIn : ℕ → ℕ × Key → List Event → Type 0
 IsMetIn client pair [] = ⊥
 IsMetIn client pair (event ∷ earlier) =
-    HasMet client pair event ⊎ ((begins_call client event ≡ false) × IsMetIn client pair earlier)
+    MeetsConflict client pair event ⊎ ((begins_call client event ≡ false) × IsMetIn client pair earlier)

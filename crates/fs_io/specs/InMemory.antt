@@ -1,7 +1,7 @@
 -- A source and a sink over memory: what each call answers, and what it leaves.
 use Rattle.std.specs.Prelude.{ℕ, ◌-◌, ◌==◌, nat_lt, min, Bool, ◌&&◌, ◌||◌, if◌then◌else◌, List, ◌++◌, length, take, drop, Result, Ok, Err}
 use Rattle.std.specs.List.{list_any}
-use Rattle.fs_io.specs.Causes.{raised}
+use Rattle.fs_io.specs.Causes.{raised_count}
 use Rattle.fs_io.specs.declared.traits.SourceFailed.{SourceFailed}
 use Rattle.fs_io.specs.declared.traits.SinkFailed.{SinkFailed}
 
@@ -32,7 +32,7 @@ sink_failed = record {}
 
 -- after this many calls, the next one is listed
 abbrev pub is_next_listed : List ℕ → ℕ → Bool
-is_next_listed failing calls = list_any (λ call. call == raised calls) failing
+is_next_listed failing calls = list_any (λ call. call == raised_count calls) failing
 
 -- how many bytes a call gives: as many as are left, as there is space for and as a piece has
 abbrev pub count_given : MemoryInput → ℕ → ℕ
@@ -50,8 +50,11 @@ take_answer source space = if take_fails source then Err source_failed else Ok (
 abbrev pub after_take : MemoryInput → ℕ → MemoryInput
 after_take source space =
     if take_fails source
-    then record source { calls = raised source.calls; faults = raised source.faults }
-    else record source { calls = raised source.calls; left = drop (count_given source space) source.left }
+    then record source { calls = raised_count source.calls; faults = raised_count source.faults }
+    else record source {
+      calls = raised_count source.calls;
+      left = drop (count_given source space) source.left;
+    }
 
 -- what stands in the caller's slice then: the bytes given, and past them what stood there
 abbrev pub into_after_take : MemoryInput → List ℕ → List ℕ
@@ -81,6 +84,6 @@ put_answer sink bytes = if put_fails sink bytes then Err sink_failed else Ok (co
 abbrev pub after_put : MemoryOutput → List ℕ → MemoryOutput
 after_put sink bytes =
     if put_fails sink bytes
-    then record sink { calls = raised sink.calls; faults = raised sink.faults }
+    then record sink { calls = raised_count sink.calls; faults = raised_count sink.faults }
     else record sink
-    { calls = raised sink.calls; written = sink.written ++ take (count_written sink bytes) bytes }
+    { calls = raised_count sink.calls; written = sink.written ++ take (count_written sink bytes) bytes }

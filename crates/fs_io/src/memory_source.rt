@@ -1,7 +1,7 @@
 ghost use Rattle.std.specs.Prelude.{◌≡◌, ◌≤◌, ◌<◌, ◌++◌, [], Some, IsOk, OnOk, min, length, take, drop};
 ghost use Rattle.std.specs.Io.{ReadsAtMost};
 ghost use Rattle.std.specs.Io.KnownBytes.{ReadConsumes};
-ghost use Rattle.fs_io.specs.Causes.{HasCause};
+ghost use Rattle.fs_io.specs.Causes.{HasIoCause};
 ghost use Rattle.fs_io.specs.InMemory.{take_answer, after_take, into_after_take};
 
 use crate::traits::{Source, SourceFailed};
@@ -67,7 +67,7 @@ impl Source for MemSource {
     fn take(&mut self, into: &mut [u8]) -> Result<usize, SourceFailed>
         ensures bound { ReadsAtMost result into.new }
         ensures bytes { ReadConsumes (Some self.old.left) (Some self.new.left) result into.new }
-        ensures cause { HasCause self.old.faults self.new.faults result }
+        ensures cause { HasIoCause self.old.faults self.new.faults result }
         ensures quiet { OnOk result (self.new.faults ≡ self.old.faults) }
 
         // What it gives, what it leaves, and what stands in the slice then.

@@ -2,7 +2,7 @@ ghost use Rattle.std.specs.Prelude.{◌≡◌, ◌<◌, IfOk, OnOk, length};
 ghost use Rattle.std.specs.Io.{ReadsAtMost, WritesAtMost};
 ghost use Rattle.std.specs.Io.KnownBytes.{ReadConsumes, WriteAppends};
 ghost use Rattle.fs_io.specs.Answers.{read_answer, write_answer};
-ghost use Rattle.fs_io.specs.Causes.{HasCause, count_after};
+ghost use Rattle.fs_io.specs.Causes.{HasIoCause, count_after};
 
 use crate::traits::{Sink, SinkFailed, Source, SourceFailed};
 use std::io::{self, Read, Write};
@@ -37,7 +37,7 @@ impl<R: Read> Source for StdSource<R> {
         ensures bound { ReadsAtMost result into.new }
         ensures bytes { ReadConsumes
             (R.remaining (reader_of self.old)) (R.remaining (reader_of self.new)) result into.new }
-        ensures cause { HasCause (read_faults self.old) (read_faults self.new) result }
+        ensures cause { HasIoCause (read_faults self.old) (read_faults self.new) result }
         ensures quiet { OnOk result (read_faults self.new ≡ read_faults self.old) }
 
         // Each error raises the count by one, and nothing else does.
@@ -94,7 +94,7 @@ impl<W: Write> Sink for StdSink<W> {
         ensures some { IfOk result (λ n. 0 < length bytes.now → 0 < n) }
         ensures bytes { WriteAppends
             (W.contents (writer_of self.old)) (W.contents (writer_of self.new)) result bytes.now }
-        ensures cause { HasCause (write_faults self.old) (write_faults self.new) result }
+        ensures cause { HasIoCause (write_faults self.old) (write_faults self.new) result }
         ensures quiet { OnOk result (write_faults self.new ≡ write_faults self.old) }
 
         // Each error raises the count by one, and nothing else does.

@@ -33,7 +33,7 @@ use Rattle.tree_model.specs.declared.walk.Walked.{Walked}
 use Rattle.tree_model.specs.declared.walk.Walked.TheVariants.{At, AtParent, NoName, Stopped}
 use Rattle.tree_model.specs.Attributes.{changed, touched, attributes_of}
 use Rattle.tree_model.specs.Calls.{effect_of}
-use Rattle.tree_model.specs.Creating.{id_of, is_layout, part_for, with_child, add_numbered, add_in, add_child, unless_there, make_at, make, symlink, new_dir, new_file, new_link}
+use Rattle.tree_model.specs.Creating.{id_of, admits_given, part_for, with_child, add_numbered, add_in, add_child, unless_there, make_at, make, symlink, new_dir, new_file, new_link}
 use Rattle.tree_model.specs.Effects.{Effect, Leaves, Makes, Settles, at_length, settled_by, on_path}
 use Rattle.tree_model.specs.Finding.{at_end, found_of, if_there, on_node, list_at, target_of, readlink_at, stat_at, setattr_at}
 use Rattle.tree_model.specs.Linking.{with_link, with_touched, without_dir, without_entry}
@@ -47,7 +47,7 @@ use Rattle.tree_model.proofs.LinkingLaws.{link_is, unlink_is, rmdir_is}
 use Rattle.tree_model.proofs.MapLaws.{ids, get-set_same, get-set_cases}
 use Rattle.tree_model.proofs.RenameLaws.{rename_is}
 use Rattle.tree_model.proofs.SessionLaws.{extend_is, fstat_is, open_to_read_is, open_to_write_is}
-use Rattle.histories.specs.Steps.{PartLasts, NodeLasts, IsGivenOut, IsTreeStep, IsLawful}
+use Rattle.histories.specs.Steps.{PartLasts, NodeLasts, IsGivenOut, IsTreeStep, IsLawfulEffect}
 use Rattle.histories.proofs.Versions.{node_same, part_same}
 
 -- what is purged was so before
@@ -207,8 +207,8 @@ module _ (T : Tree) (server : ℕ) (known : server < 16) where
 
     owes_make : (place : Place) → Owes T (make C T server stamp made place)
     owes_make place =
-        owes_on_path T (path_of place.text) (λ path. cond (is_layout C made.layout) (make_at C T server stamp made (resolve T place.base path Parent)) (Leaves (Reply.Refused codes.BadLayout)))
-        (λ path. by_layout path (is_layout C made.layout))
+        owes_on_path T (path_of place.text) (λ path. cond (admits_given C made.layout) (make_at C T server stamp made (resolve T place.base path Parent)) (Leaves (Reply.Refused codes.BadLayout)))
+        (λ path. by_layout path (admits_given C made.layout))
       where
         by_layout : (path : Path) (b : Bool) → Owes T (cond b (make_at C T server stamp made (resolve T place.base path Parent)) (Leaves (Reply.Refused codes.BadLayout)))
         by_layout path true = owes_make_at (resolve T place.base path Parent)
@@ -308,7 +308,7 @@ owes_call C T q (calls.Open place) known = open_to_write_is (Owes T) T (λ code.
 owes_call C T q (calls.Extend session place) known = extend_is (Owes T) T (λ code. tt) place (owes_hinted T place) q.client session
 owes_call C T q _ known = tt
 
-pub lawful : (C : Settings) → C.servers ≤ 16 → IsLawful C
+pub lawful : (C : Settings) → C.servers ≤ 16 → IsLawfulEffect C
 lawful C few T V q reply known is =
     let owed : IsTreeStep T V × (V.kept ≡ T.kept) × PurgesNone T V = subst (Owes T) is (owes_at T (settled_by reply) (effect_of C T q q.call) (owes_call C T q q.call (omega arith))) in
     record {

@@ -19,8 +19,8 @@ use Rattle.tree_model.specs.Tree.{Tree, new_tree}
 use Rattle.tree_model.proofs.MapLaws.{ids, get-set_cases}
 use Rattle.txn_task.specs.declared.messages.Entry.{Entry}
 use Rattle.histories.specs.Fitting.{IsPurge}
-use Rattle.histories.specs.Journal.{EntryAt, applied, tree_after, tree_at, IsLegal}
-use Rattle.histories.specs.Steps.{IsChange, IsLawful}
+use Rattle.histories.specs.Journal.{EntryAt, applied, tree_after, tree_at, IsLegalJournal}
+use Rattle.histories.specs.Steps.{IsChange, IsLawfulEffect}
 use Rattle.histories.proofs.Versions.{AreKnown, place_or_end, reply_at, tree_next}
 
 abbrev client_of : ℕ → ClientId
@@ -53,7 +53,7 @@ out_of C T q settled = by_query (is_query q.call)
     by_query true = inl refl
     by_query false = by_kept (get T.kept q.client.0) refl
 
-module _ (C : Settings) (journal : List Entry) (lawful : IsLawful C) (known : AreKnown C journal) where
+module _ (C : Settings) (journal : List Entry) (lawful : IsLawfulEffect C) (known : AreKnown C journal) where
   -- a kept reply has its number from an entry before
   pub record IsKeptFrom (n client : ℕ) (kept : KeptReply) : Type 0 where
     pub place : ℕ
@@ -113,7 +113,7 @@ module _ (C : Settings) (journal : List Entry) (lawful : IsLawful C) (known : Ar
     pub next : tree_at C journal (suc place) ≡ keeps tree e.request e.reply
 
   -- an entry answered Done, of a call whose effect doesn't leave the tree with Done
-  pub has_made : IsLegal C journal → (place : ℕ) (e : Entry) → EntryAt journal place e → e.reply ≡ Done → effect C (tree_at C journal place) e.request ≢ Leaves Done → HasMade place e
+  pub has_made : IsLegalJournal C journal → (place : ℕ) (e : Entry) → EntryAt journal place e → e.reply ≡ Done → effect C (tree_at C journal place) e.request ≢ Leaves Done → HasMade place e
   has_made legal place e at is leaves = by_out (applied C (tree_at C journal place) e) refl (out_of C (tree_at C journal place) e.request (settled_by e.reply))
     where
       T : Tree
@@ -148,7 +148,7 @@ module _ (C : Settings) (journal : List Entry) (lawful : IsLawful C) (known : Ar
   -- ---- who purged
 
   -- an entry behind which the file is purged, and wasn't before, is its purge
-  pub purge_at : IsLegal C journal → (place : ℕ) (e : Entry) (id : ℕ) (layout : Layout) (hint : ℕ) → EntryAt journal place e → get (tree_at C journal place).doomed id ≢ Some (Purged layout hint)
+  pub purge_at : IsLegalJournal C journal → (place : ℕ) (e : Entry) (id : ℕ) (layout : Layout) (hint : ℕ) → EntryAt journal place e → get (tree_at C journal place).doomed id ≢ Some (Purged layout hint)
       → get (tree_at C journal (suc place)).doomed id ≡ Some (Purged layout hint) → IsPurge journal id (suc place)
   purge_at legal place e id layout hint at before after =
       by_out (applied C (tree_at C journal place) e) refl (out_of C (tree_at C journal place) e.request (settled_by e.reply))

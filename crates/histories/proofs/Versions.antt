@@ -19,7 +19,7 @@ use Rattle.tree_model.specs.Tree.{Tree, new_tree, next_at, root_of}
 use Rattle.tree_model.proofs.MapLaws.{ids, get-set_cases}
 use Rattle.txn_task.specs.declared.messages.Entry.{Entry}
 use Rattle.histories.specs.Journal.{EntryAt, AreReplies, applied, tree_after, tree_at}
-use Rattle.histories.specs.Steps.{PartLasts, NodeLasts, IsTreeStep, IsLawful}
+use Rattle.histories.specs.Steps.{PartLasts, NodeLasts, IsTreeStep, IsLawfulEffect}
 use Rattle.histories.proofs.Trees.{AllUsed}
 
 -- ---- longer journals
@@ -53,12 +53,12 @@ step_kept T V q reply s =
       purged = s.purged;
     }
 
-settle_step : (C : Settings) (T : Tree) (q : Request) (settled : ℕ) → IsLawful C → q.server < C.servers → (f : Effect) → effect C T q ≡ f → IsTreeStep T (settle T q settled f).0
+settle_step : (C : Settings) (T : Tree) (q : Request) (settled : ℕ) → IsLawfulEffect C → q.server < C.servers → (f : Effect) → effect C T q ≡ f → IsTreeStep T (settle T q settled f).0
 settle_step C T q settled lawful known (Leaves reply) is = step_same T
 settle_step C T q settled lawful known (Makes V reply) is = step_kept T V q reply ((lawful T V q reply known (ap (at_length (settled_by reply)) is)).step)
 settle_step C T q settled lawful known (Settles V) is = step_kept T (V settled) q (Settled settled) ((lawful T (V settled) q (Settled settled) known (ap (at_length settled) is)).step)
 
-pub apply_step : (C : Settings) (T : Tree) (q : Request) (settled : ℕ) → IsLawful C → q.server < C.servers → IsTreeStep T (apply C T q settled).0
+pub apply_step : (C : Settings) (T : Tree) (q : Request) (settled : ℕ) → IsLawfulEffect C → q.server < C.servers → IsTreeStep T (apply C T q settled).0
 unfolding apply
 apply_step C T q settled lawful known = by_query (is_query q.call)
   where
@@ -109,7 +109,7 @@ place_or_end (x ∷ es) (suc n) = elim (place_or_end es n) [ inl here ↦ inl he
 abbrev pub AreKnown : Settings → List Entry → Type 0
 AreKnown C journal = (place : ℕ) (e : Entry) → EntryAt journal place e → e.request.server < C.servers
 
-pub steps : (C : Settings) (journal : List Entry) → IsLawful C → AreKnown C journal → (n : ℕ) → IsTreeStep (tree_at C journal n) (tree_at C journal (suc n))
+pub steps : (C : Settings) (journal : List Entry) → IsLawfulEffect C → AreKnown C journal → (n : ℕ) → IsTreeStep (tree_at C journal n) (tree_at C journal (suc n))
 steps C journal lawful known n = elim (place_or_end journal n) [
   | inl here ↦ subst (IsTreeStep (tree_at C journal n)) (sym (tree_next C (new_tree C) journal n here.0 here.1)) (apply_step C (tree_at C journal n) here.0.request (settled_by here.0.reply) lawful (known n here.0 here.1))
   | inr over ↦ subst (IsTreeStep (tree_at C journal n)) (sym (ap (tree_after C (new_tree C)) over)) (step_same (tree_at C journal n))

@@ -36,6 +36,6 @@ IsOnce journal =
     → a.request.number ≡ b.request.number → i ≡ j
 
 -- the journal is a history of the plain tree
-pub record IsLegal (C : Settings) (journal : List Entry) : Type 0 where
+pub record IsLegalJournal (C : Settings) (journal : List Entry) : Type 0 where
   pub replies : AreReplies C (new_tree C) journal
   pub once : IsOnce journal

@@ -66,8 +66,8 @@ pub record IsChange (q : Request) (reply : Reply) (T V : Tree) : Type 0 where
   pub done : (id : ℕ) → q.call ≡ calls.Purge id → reply ≡ Done
 
 -- all calls owe it; a settling does at each length
-abbrev pub IsLawful : Settings → Type 0
-IsLawful C =
+abbrev pub IsLawfulEffect : Settings → Type 0
+IsLawfulEffect C =
     (T V : Tree) (q : Request) (reply : Reply) → q.server < C.servers
     → at_length (settled_by reply) (effect C T q) ≡ Makes V reply → IsChange q reply T V
 

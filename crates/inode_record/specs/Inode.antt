@@ -93,5 +93,5 @@ spelled_inode = inode.spelled
 abbrev pub is_inode : InodeRow → Bool
 is_inode = inode.fits
 
-abbrev pub inode_of : List ℕ → Result InodeRow ℕ
-inode_of bytes = whole inode bytes
+abbrev pub read_inode : List ℕ → Result InodeRow ℕ
+read_inode bytes = whole inode bytes

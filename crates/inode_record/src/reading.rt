@@ -1,7 +1,7 @@
 ghost use Rattle.std.specs.Prelude.{◌≡◌};
 ghost use Rattle.fs_base.specs.Gives.{Gives};
-ghost use Rattle.byte_fields.specs.Outcome.{left_of, place_of};
-ghost use Rattle.inode_record.specs.Inode.{access, times, head, dir_arm, file_arm, link_arm, by_kind, inode, inode_of};
+ghost use Rattle.byte_fields.specs.Outcome.{left_of, fault_place};
+ghost use Rattle.inode_record.specs.Inode.{access, times, head, dir_arm, file_arm, link_arm, by_kind, inode, read_inode};
 
 use crate::inode::{Access, Head, InodePart, InodeRow, Times};
 use byte_fields::{Cursor, FieldError, RowError};
@@ -12,7 +12,7 @@ use std::alloc::Global;
 impl InodeRow {
     /// The row that all the bytes spell.
     pub fn read(alloc: Global, bytes: &[u8]) -> Result<InodeRow, RowError>
-        ensures { Gives place_of (λ row. row) result (inode_of bytes.now) }
+        ensures { Gives fault_place (λ row. row) result (read_inode bytes.now) }
     {
         let mut cursor = Cursor::new(bytes);
         let row = inode(alloc, &mut cursor);

@@ -3,13 +3,15 @@ use Rattle.std.proofs.Common.{◌≡◌, ℕ, ◌<◌, ◌≤◌, ◌+◌, ◌-�
 use Rattle.std.specs.Prelude.{leb, slice_get}
 use Rattle.std.proofs.Math.Nat.{pow-succ', mul-le-mul_left, mul_comm, mul_assoc}
 use Rattle.kv_store.specs.declared.chain.Version.{Version}
-use Rattle.kv_store.specs.Chains.{AreBelow, AreAbove, IsRising, AreOutside, IsSplit, up_to, last_of}
+use Rattle.kv_store.specs.Chains.{AreBelow, AreVersionsAbove, AreVersionsRising, AreOutside, IsSplit, up_to}
+use Rattle.kv_store.specs.Chains.{last_of}
 
 pub AreBelow_higher : (a b : ℕ) (chain : List Version) → a ≤ b → AreBelow a chain → AreBelow b chain
 AreBelow_higher a b [] l h = tt
 AreBelow_higher a b (v ∷ chain) l h = let s : v.version < a = h.0 in (omega arith, AreBelow_higher a b chain l h.1)
 
-pub AreAbove_lower : (a b : ℕ) (chain : List Version) → b ≤ a → AreAbove a chain → AreAbove b chain
+pub AreAbove_lower : (a b : ℕ) (chain : List Version) → b ≤ a → AreVersionsAbove a chain
+    → AreVersionsAbove b chain
 AreAbove_lower a b [] l h = tt
 AreAbove_lower a b (v ∷ chain) l h = let s : a < v.version = h.0 in (omega arith, AreAbove_lower a b chain l h.1)
 
@@ -17,30 +19,31 @@ pub AreBelow-append : (n : ℕ) (xs ys : List Version) → AreBelow n xs → Are
 AreBelow-append n [] ys h g = g
 AreBelow-append n (v ∷ xs) ys h g = (h.0, AreBelow-append n xs ys h.1 g)
 
-pub AreAbove-append : (n : ℕ) (xs ys : List Version) → AreAbove n xs → AreAbove n ys → AreAbove n (xs ++ ys)
+pub AreAbove-append : (n : ℕ) (xs ys : List Version) → AreVersionsAbove n xs → AreVersionsAbove n ys
+    → AreVersionsAbove n (xs ++ ys)
 AreAbove-append n [] ys h g = g
 AreAbove-append n (v ∷ xs) ys h g = (h.0, AreAbove-append n xs ys h.1 g)
 
 -- the search: what comes up to a place is at most what stands there, and the rest comes after
-pub below_place : (chain : List Version) (i n : ℕ) (v : Version) → IsRising chain → i < length chain → get_or chain i v ≡ v → v.version ≤ n → AreBelow (n + 1) (take (i + 1) chain)
+pub below_place : (chain : List Version) (i n : ℕ) (v : Version) → AreVersionsRising chain → i < length chain → get_or chain i v ≡ v → v.version ≤ n → AreBelow (n + 1) (take (i + 1) chain)
 below_place chain i n v r l at m = let e : suc i ≡ i + 1 = omega arith in subst (λ k. AreBelow (n + 1) (take k chain)) e (below chain i r l at)
   where
-    below : (chain : List Version) (i : ℕ) → IsRising chain → i < length chain → get_or chain i v ≡ v → AreBelow (n + 1) (take (suc i) chain)
+    below : (chain : List Version) (i : ℕ) → AreVersionsRising chain → i < length chain → get_or chain i v ≡ v → AreBelow (n + 1) (take (suc i) chain)
     below [] i r l at = absurd (omega arith)
     below (x ∷ chain) zero r l at = let s : x.version ≡ v.version = ap (λ (y : Version). y.version) at in (omega arith, tt)
     below (x ∷ chain) (suc i) r l at = (first chain i r.0 (omega arith) at, below chain i r.1 (omega arith) at)
       where
-        first : (chain : List Version) (i : ℕ) → AreAbove x.version chain → i < length chain → get_or chain i v ≡ v → x.version < n + 1
+        first : (chain : List Version) (i : ℕ) → AreVersionsAbove x.version chain → i < length chain → get_or chain i v ≡ v → x.version < n + 1
         first [] i a l at = absurd (omega arith)
         first (y ∷ chain) zero a l at = let s : y.version ≡ v.version = ap (λ (z : Version). z.version) at in let t : x.version < y.version = a.0 in omega arith
         first (y ∷ chain) (suc i) a l at = first chain i a.1 (omega arith) at
 
-pub above_place : (chain : List Version) (i n : ℕ) (v : Version) → IsRising chain → i < length chain → get_or chain i v ≡ v → n < v.version → AreAbove n (drop i chain)
+pub above_place : (chain : List Version) (i n : ℕ) (v : Version) → AreVersionsRising chain → i < length chain → get_or chain i v ≡ v → n < v.version → AreVersionsAbove n (drop i chain)
 above_place [] i n v r l at m = absurd (omega arith)
 above_place (x ∷ chain) zero n v r l at m = let s : x.version ≡ v.version = ap (λ (y : Version). y.version) at in (omega arith, AreAbove_lower x.version n chain (omega arith) r.0)
 above_place (x ∷ chain) (suc i) n v r l at m = above_place chain i n v r.1 (omega arith) at m
 
-pub none_up_to : (n : ℕ) (chain : List Version) → AreAbove n chain → up_to n chain ≡ []
+pub none_up_to : (n : ℕ) (chain : List Version) → AreVersionsAbove n chain → up_to n chain ≡ []
 none_up_to n [] h = refl
 none_up_to n (v ∷ chain) h = let t : leb v.version n ≡ false = after n v.version h.0 in rw t (none_up_to n chain h.1)
   where
@@ -85,7 +88,7 @@ pub outside_below : (after before : ℕ) (chain : List Version) → AreBelow (af
 outside_below after before [] h = tt
 outside_below after before (v ∷ chain) h = let s : v.version < after + 1 = h.0 in (λ l. absurd (omega arith), outside_below after before chain h.1)
 
-pub outside_above : (after before : ℕ) (chain : List Version) → AreAbove before chain → AreOutside after before chain
+pub outside_above : (after before : ℕ) (chain : List Version) → AreVersionsAbove before chain → AreOutside after before chain
 outside_above after before [] h = tt
 outside_above after before (v ∷ chain) h = let s : before < v.version = h.0 in (λ l. omega arith, outside_above after before chain h.1)
 
@@ -103,41 +106,45 @@ AreOutside_narrower a b c d [] l m h = tt
 AreOutside_narrower a b c d (v ∷ chain) l m h = (λ t. let s : b ≤ v.version = h.0 (omega arith) in omega arith, AreOutside_narrower a b c d chain l m h.1)
 
 -- nothing stands between the split and the first version after it
-pub outside_first : (chain : List Version) (n p until : ℕ) (v : Version) → IsRising chain → IsSplit chain n p → p < length chain → get_or chain p v ≡ v → until ≤ v.version → AreOutside n until chain
+pub outside_first : (chain : List Version) (n p until : ℕ) (v : Version) → AreVersionsRising chain → IsSplit chain n p → p < length chain → get_or chain p v ≡ v → until ≤ v.version → AreOutside n until chain
 outside_first chain n p until v r s l at m =
     subst (λ xs. AreOutside n until xs) (Rattle.std.proofs.lemmas.List.take-append-drop p chain)
     (AreOutside-append n until (take p chain) (drop p chain) (outside_below n until (take p chain) s.below) (rest chain p r l at))
   where
-    all : (chain : List Version) → AreAbove v.version chain → AreOutside n until chain
+    all : (chain : List Version) → AreVersionsAbove v.version chain → AreOutside n until chain
     all [] h = tt
     all (x ∷ chain) h = let t : v.version < x.version = h.0 in (λ k. omega arith, all chain h.1)
 
-    rest : (chain : List Version) (p : ℕ) → IsRising chain → p < length chain → get_or chain p v ≡ v → AreOutside n until (drop p chain)
+    rest : (chain : List Version) (p : ℕ) → AreVersionsRising chain → p < length chain → get_or chain p v ≡ v → AreOutside n until (drop p chain)
     rest [] p r l at = absurd (omega arith)
-    rest (x ∷ chain) zero r l at = let e : x ≡ v = at in let s : x.version ≡ v.version = ap (λ (y : Version). y.version) e in (λ k. omega arith, all chain (subst (λ (y : Version). AreAbove y.version chain) e r.0))
+    rest (x ∷ chain) zero r l at = let e : x ≡ v = at in let s : x.version ≡ v.version = ap (λ (y : Version). y.version) e in (λ k. omega arith, all chain (subst (λ (y : Version). AreVersionsAbove y.version chain) e r.0))
     rest (x ∷ chain) (suc p) r l at = rest chain p r.1 (omega arith) at
 
 pub outside_all : (chain : List Version) (n p until : ℕ) → IsSplit chain n p → length chain ≤ p → AreOutside n until chain
 outside_all chain n p until s l = subst (λ xs. AreOutside n until xs) (Rattle.std.proofs.lemmas.List.take_all p chain l) (outside_below n until (take p chain) s.below)
 
 -- one version above all
-pub IsRising-push : (chain : List Version) (v : Version) → IsRising chain → AreBelow v.version chain → IsRising (chain ++ v ∷ [])
+pub IsRising-push : (chain : List Version) (v : Version) → AreVersionsRising chain → AreBelow v.version chain → AreVersionsRising (chain ++ v ∷ [])
 IsRising-push [] v r b = (tt, tt)
 IsRising-push (x ∷ chain) v r b = (AreAbove-append x.version chain (v ∷ []) r.0 (b.0, tt), IsRising-push chain v r.1 b.1)
 
-AreAbove-up_to : (n m : ℕ) (chain : List Version) → AreAbove m chain → AreAbove m (up_to n chain)
+AreAbove-up_to : (n m : ℕ) (chain : List Version) → AreVersionsAbove m chain
+    → AreVersionsAbove m (up_to n chain)
 AreAbove-up_to n m [] h = tt
 AreAbove-up_to n m (y ∷ chain) h = here (AreAbove-up_to n m chain h.1) (leb y.version n)
   where
-    here : AreAbove m (up_to n chain) → (b : Bool) → AreAbove m (cond b (y ∷ up_to n chain) (up_to n chain))
+    here : AreVersionsAbove m (up_to n chain) → (b : Bool)
+        → AreVersionsAbove m (cond b (y ∷ up_to n chain) (up_to n chain))
     here rest true = (h.0, rest)
     here rest false = rest
 
-pub IsRising-up_to : (n : ℕ) (chain : List Version) → IsRising chain → IsRising (up_to n chain)
+pub IsRising-up_to : (n : ℕ) (chain : List Version) → AreVersionsRising chain
+    → AreVersionsRising (up_to n chain)
 IsRising-up_to n [] r = tt
 IsRising-up_to n (x ∷ chain) r = inside (IsRising-up_to n chain r.1) (leb x.version n)
   where
-    inside : IsRising (up_to n chain) → (b : Bool) → IsRising (cond b (x ∷ up_to n chain) (up_to n chain))
+    inside : AreVersionsRising (up_to n chain) → (b : Bool)
+        → AreVersionsRising (cond b (x ∷ up_to n chain) (up_to n chain))
     inside rest true = (AreAbove-up_to n x.version chain r.0, rest)
     inside rest false = rest
 

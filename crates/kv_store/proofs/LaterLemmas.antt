@@ -7,7 +7,7 @@ use Rattle.conflict_sets.specs.declared.sets.ReadSet.{ReadSet}
 use Rattle.conflict_sets.specs.declared.sets.WriteSet.{WriteSet}
 use Rattle.conflict_sets.proofs.HeldLemmas.{none_holds, first_is_least}
 use Rattle.kv_store.specs.Journal.{this_or, later_from, first_later}
-use Rattle.kv_store.specs.Later.{IsFirst}
+use Rattle.kv_store.specs.Later.{IsFirstConflict}
 
 -- the same where the versions of these entries begin above base
 record FirstAt {E : Type 0} (writes_of : E → WriteSet) (reads : ReadSet) (base from : ℕ) (es : List E) (version : ℕ) (key : List ℕ) : Type 0 where
@@ -91,7 +91,7 @@ later_first {E} writes_of reads base zero start (e ∷ es) s =
     start_is : (base start : ℕ) → start ≡ base + 0 → base ≡ start
     start_is base start s = omega arith
 
-unbased : {E : Type 0} (writes_of : E → WriteSet) (reads : ReadSet) (snapshot : ℕ) (es : List E) (answer : Option (ℕ × List ℕ)) → IsFirstFrom writes_of reads 0 snapshot es answer → IsFirst writes_of es snapshot reads answer
+unbased : {E : Type 0} (writes_of : E → WriteSet) (reads : ReadSet) (snapshot : ℕ) (es : List E) (answer : Option (ℕ × List ℕ)) → IsFirstFrom writes_of reads 0 snapshot es answer → IsFirstConflict writes_of es snapshot reads answer
 unbased writes_of reads snapshot es None h = h
 unbased writes_of reads snapshot es (Some found) h = record {
   place = h.place;
@@ -104,6 +104,6 @@ unbased writes_of reads snapshot es (Some found) h = record {
 }
 
 -- The first later write is the one that its name says.
-pub first_later_first : {E : Type 0} (writes_of : E → WriteSet) (es : List E) (snapshot : ℕ) (reads : ReadSet) → IsFirst writes_of es snapshot reads (first_later writes_of es snapshot reads)
+pub first_later_first : {E : Type 0} (writes_of : E → WriteSet) (es : List E) (snapshot : ℕ) (reads : ReadSet) → IsFirstConflict writes_of es snapshot reads (first_later writes_of es snapshot reads)
 first_later_first writes_of es snapshot reads =
     unbased writes_of reads snapshot es (first_later writes_of es snapshot reads) (later_first writes_of reads 0 snapshot snapshot es (omega arith))

@@ -11,7 +11,8 @@ use Rattle.std.specs.Cmp.Lexicographic.{slice_cmp}
 use Rattle.std.specs.BTreeMap.Range.{range_contains, entries_between}
 use Rattle.std.specs.declared.ops.Bound.TheVariants.{Included, Excluded}
 use Rattle.conflict_sets.specs.Keys.{key_cmp}
-use Rattle.conflict_sets.specs.Rows.{KeysAbove, IsAscending, new_row, value_at_key, is_inside, rows_between}
+use Rattle.conflict_sets.specs.Rows.{KeysAbove, IsAscending, row_if_some, value_at_key, is_inside}
+use Rattle.conflict_sets.specs.Rows.{rows_between}
 use Rattle.conflict_sets.proofs.KeyOrder.{key_exact, key_self, key_trans, key_less_flips, key_greater_flips}
 use Rattle.conflict_sets.proofs.RowLemmas.{by_place, value_below}
 use Rattle.conflict_sets.proofs.RowRanges.{same_rows}
@@ -24,15 +25,15 @@ use Rattle.kv_store.specs.Versions.{chain_at, rows_of, AllOutside}
 rows_of_filter : (p q : List ℕ → Bool) → ((key : List ℕ) → p key ≡ q key) → (n : ℕ) (es : List (List ℕ × List Version)) → rows_of n (filter (λ (e : List ℕ × List Version). p e.0) es) ≡ filter (λ (row : Row). q row.key) (rows_of n es)
 rows_of_filter p q same n [] = refl
 rows_of_filter p q same n (e ∷ es) =
-    inside (p e.0) (rows_of_filter p q same n es) ∙ (ap (λ b. cond b (new_row e.0 (value_of (last_of (up_to n e.1)))) [] ++ filter (λ (row : Row). q row.key) (rows_of n es)) (same e.0)
+    inside (p e.0) (rows_of_filter p q same n es) ∙ (ap (λ b. cond b (row_if_some e.0 (value_of (last_of (up_to n e.1)))) [] ++ filter (λ (row : Row). q row.key) (rows_of n es)) (same e.0)
     ∙ row (value_of (last_of (up_to n e.1))) (q e.0) refl)
   where
     inside : (b : Bool) → rows_of n (filter (λ (x : List ℕ × List Version). p x.0) es) ≡ filter (λ (x : Row). q x.key) (rows_of n es)
-        → rows_of n (cond b (e ∷ filter (λ (x : List ℕ × List Version). p x.0) es) (filter (λ (x : List ℕ × List Version). p x.0) es)) ≡ cond b (new_row e.0 (value_of (last_of (up_to n e.1)))) [] ++ filter (λ (x : Row). q x.key) (rows_of n es)
-    inside true h = ap (λ rest. new_row e.0 (value_of (last_of (up_to n e.1))) ++ rest) h
+        → rows_of n (cond b (e ∷ filter (λ (x : List ℕ × List Version). p x.0) es) (filter (λ (x : List ℕ × List Version). p x.0) es)) ≡ cond b (row_if_some e.0 (value_of (last_of (up_to n e.1)))) [] ++ filter (λ (x : Row). q x.key) (rows_of n es)
+    inside true h = ap (λ rest. row_if_some e.0 (value_of (last_of (up_to n e.1))) ++ rest) h
     inside false h = h
 
-    row : (o : Option (List ℕ)) (b : Bool) → q e.0 ≡ b → cond b (new_row e.0 o) [] ++ filter (λ (x : Row). q x.key) (rows_of n es) ≡ filter (λ (x : Row). q x.key) (new_row e.0 o ++ rows_of n es)
+    row : (o : Option (List ℕ)) (b : Bool) → q e.0 ≡ b → cond b (row_if_some e.0 o) [] ++ filter (λ (x : Row). q x.key) (rows_of n es) ≡ filter (λ (x : Row). q x.key) (row_if_some e.0 o ++ rows_of n es)
     row None true h = refl
     row None false h = refl
     row (Some v) true h = rw h refl
@@ -115,7 +116,8 @@ unfolding key_cmp
 above_rows n key [] h = tt
 above_rows n key (e ∷ es) h = one (value_of (last_of (up_to n e.1))) (above_rows n key es h.1)
   where
-    one : (o : Option (List ℕ)) → KeysAbove key (rows_of n es) → KeysAbove key (new_row e.0 o ++ rows_of n es)
+    one : (o : Option (List ℕ)) → KeysAbove key (rows_of n es)
+        → KeysAbove key (row_if_some e.0 o ++ rows_of n es)
     one None rest = rest
     one (Some v) rest = (h.0, rest)
 
@@ -124,7 +126,7 @@ unfolding IsStrictlySortedBy
 IsAscending-rows_of n [] h = tt
 IsAscending-rows_of n (e ∷ es) h = one (value_of (last_of (up_to n e.1))) (above_rows n e.0 es h.0) (IsAscending-rows_of n es h.1)
   where
-    one : (o : Option (List ℕ)) → KeysAbove e.0 (rows_of n es) → IsAscending (rows_of n es) → IsAscending (new_row e.0 o ++ rows_of n es)
+    one : (o : Option (List ℕ)) → KeysAbove e.0 (rows_of n es) → IsAscending (rows_of n es) → IsAscending (row_if_some e.0 o ++ rows_of n es)
     one None above rest = rest
     one (Some v) above rest = (above, rest)
 
@@ -134,11 +136,11 @@ unfolding IsStrictlySortedBy
 value-rows_of n [] key h = refl
 value-rows_of n (e ∷ es) key h = by_key (is_eq (key_cmp key e.0)) refl (above_rows n e.0 es h.0) (value-rows_of n es key h.1)
   where
-    there : (o : Option (List ℕ)) → KeysAbove e.0 (rows_of n es) → value_at_key (new_row e.0 o ++ rows_of n es) e.0 ≡ o
+    there : (o : Option (List ℕ)) → KeysAbove e.0 (rows_of n es) → value_at_key (row_if_some e.0 o ++ rows_of n es) e.0 ≡ o
     there None above = value_below e.0 (rows_of n es) above
     there (Some v) above = rw (key_self e.0) refl
 
-    other : (o : Option (List ℕ)) → is_eq (key_cmp key e.0) ≡ false → value_at_key (new_row e.0 o ++ rows_of n es) key ≡ value_at_key (rows_of n es) key
+    other : (o : Option (List ℕ)) → is_eq (key_cmp key e.0) ≡ false → value_at_key (row_if_some e.0 o ++ rows_of n es) key ≡ value_at_key (rows_of n es) key
     other None f = refl
     other (Some v) f = rw f refl
 

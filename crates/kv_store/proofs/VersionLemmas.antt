@@ -8,18 +8,18 @@ use Rattle.conflict_sets.proofs.RowLemmas.{IsAscending-with_writes}
 use Rattle.fs_base.specs.declared.row.Row.{Row}
 use Rattle.kv_store.specs.declared.chain.Version.{Version}
 use Rattle.kv_store.specs.Journal.{written_value, is_written, after_all, rows_at, writer_from, last_writer}
-use Rattle.kv_store.specs.Chains.{AreBelow, AreAbove, up_to, last_of, value_of, number_of}
+use Rattle.kv_store.specs.Chains.{AreBelow, AreVersionsAbove, up_to, last_of, value_of, number_of}
 use Rattle.kv_store.specs.Versions.{opening_version, written_version, chain_from, chain_of}
 use Rattle.kv_store.proofs.JournalLemmas.{value-with_writes}
 use Rattle.kv_store.proofs.ChainLemmas.{AreBelow_higher, AreBelow-append, AreAbove_lower, AreAbove-append, up_to-append, none_up_to}
 
-chain_from_above : {E : Type 0} (writes_of : E → WriteSet) (key : List ℕ) (v : ℕ) (es : List E) → AreAbove v (chain_from writes_of key v es)
+chain_from_above : {E : Type 0} (writes_of : E → WriteSet) (key : List ℕ) (v : ℕ) (es : List E) → AreVersionsAbove v (chain_from writes_of key v es)
 chain_from_above writes_of key v [] = tt
 chain_from_above {E} writes_of key v (e ∷ es) =
     AreAbove-append v (written_version (written_value (writes_of e).writes key) (v + 1)) (chain_from writes_of key (v + 1) es)
     (one (written_value (writes_of e).writes key)) (AreAbove_lower (v + 1) v (chain_from writes_of key (v + 1) es) (omega arith) (chain_from_above writes_of key (v + 1) es))
   where
-    one : (o : Option (Option (List ℕ))) → AreAbove v (written_version o (v + 1))
+    one : (o : Option (Option (List ℕ))) → AreVersionsAbove v (written_version o (v + 1))
     one None = tt
     one (Some x) = (omega arith, tt)
 

@@ -8,14 +8,14 @@ AreBelow version [] = Unit {0}
 AreBelow version (earlier ∷ chain) = (earlier.version < version) × AreBelow version chain
 
 -- all come after this version
-abbrev pub AreAbove : ℕ → List Version → Type 0
-AreAbove version [] = Unit {0}
-AreAbove version (later ∷ chain) = (version < later.version) × AreAbove version chain
+abbrev pub AreVersionsAbove : ℕ → List Version → Type 0
+AreVersionsAbove version [] = Unit {0}
+AreVersionsAbove version (later ∷ chain) = (version < later.version) × AreVersionsAbove version chain
 
 -- versions rise
-abbrev pub IsRising : List Version → Type 0
-IsRising [] = Unit {0}
-IsRising (first ∷ chain) = AreAbove first.version chain × IsRising chain
+abbrev pub AreVersionsRising : List Version → Type 0
+AreVersionsRising [] = Unit {0}
+AreVersionsRising (first ∷ chain) = AreVersionsAbove first.version chain × AreVersionsRising chain
 
 -- those that are at most this version
 abbrev pub up_to : ℕ → List Version → List Version
@@ -48,4 +48,4 @@ AreOutside after before (first ∷ chain) =
 pub record IsSplit (chain : List Version) (version place : ℕ) : Type 0 where
   pub within : place ≤ length chain
   pub below : AreBelow (version + 1) (take place chain)
-  pub above : AreAbove version (drop place chain)
+  pub above : AreVersionsAbove version (drop place chain)

@@ -1,6 +1,6 @@
 -- A journal of optimistic commits.
 use Rattle.std.specs.Prelude.{◌≡◌, ℕ, ◌≤◌, List, [], ◌∷◌, ◌++◌, None, length}
-use Rattle.conflict_sets.specs.Reads.{Agrees}
+use Rattle.conflict_sets.specs.Reads.{RowsAgree}
 use Rattle.fs_base.specs.declared.row.Row.{Row}
 use Rattle.conflict_sets.specs.declared.sets.ReadSet.{ReadSet}
 use Rattle.conflict_sets.specs.declared.sets.WriteSet.{WriteSet}
@@ -14,6 +14,7 @@ abbrev pub IsCommitted : {E : Type 0} → (E → ReadSet) → (E → WriteSet) �
 IsCommitted reads_of writes_of sound opening done snapshots [] = Unit {0}
 IsCommitted reads_of writes_of sound opening done [] (entry ∷ entries) = ⊥
 IsCommitted reads_of writes_of sound opening done (snapshot ∷ snapshots) (entry ∷ entries) =
-    sound entry × (snapshot ≤ length done) × Agrees (rows_at writes_of opening done snapshot) (reads_of entry)
+    sound entry × (snapshot ≤ length done)
+    × RowsAgree (rows_at writes_of opening done snapshot) (reads_of entry)
     × (first_later writes_of done snapshot (reads_of entry) ≡ None)
     × IsCommitted reads_of writes_of sound opening (done ++ entry ∷ []) snapshots entries

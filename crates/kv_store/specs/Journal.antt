@@ -3,7 +3,7 @@ use Rattle.std.specs.Prelude.{ℕ, ◌+◌, List, [], ◌∷◌, Option, Some, N
 use Rattle.std.specs.Ordering.{is_eq}
 use Rattle.conflict_sets.specs.Keys.{key_cmp}
 use Rattle.conflict_sets.specs.Rows.{with_writes}
-use Rattle.conflict_sets.specs.Reads.{Agrees, first_held}
+use Rattle.conflict_sets.specs.Reads.{RowsAgree, first_held}
 use Rattle.fs_base.specs.declared.row.Row.{Row}
 use Rattle.conflict_sets.specs.declared.sets.Write.{Write}
 use Rattle.conflict_sets.specs.declared.sets.ReadSet.{ReadSet}
@@ -62,8 +62,9 @@ abbrev pub last_writer : {E : Type 0} → (E → WriteSet) → List E → ℕ �
 last_writer writes_of journal n key = writer_from writes_of key 0 0 (take n journal)
 
 -- each entry is sound, and agreed with the rows before it
-abbrev pub IsRun : {E : Type 0} → (E → ReadSet) → (E → WriteSet) → (E → Type 0) → List Row → List E → Type 0
-IsRun reads_of writes_of sound rows [] = Unit {0}
-IsRun reads_of writes_of sound rows (entry ∷ entries) =
-    sound entry × Agrees rows (reads_of entry)
-    × IsRun reads_of writes_of sound (with_writes rows (writes_of entry).writes) entries
+abbrev pub IsAgreedJournal : {E : Type 0} → (E → ReadSet) → (E → WriteSet) → (E → Type 0) → List Row → List E
+    → Type 0
+IsAgreedJournal reads_of writes_of sound rows [] = Unit {0}
+IsAgreedJournal reads_of writes_of sound rows (entry ∷ entries) =
+    sound entry × RowsAgree rows (reads_of entry)
+    × IsAgreedJournal reads_of writes_of sound (with_writes rows (writes_of entry).writes) entries

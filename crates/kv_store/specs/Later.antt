@@ -19,9 +19,10 @@ pub record IsFirstLater {E : Type 0} (writes_of : E → WriteSet) (journal : Lis
       → slice_get journal earlier ≡ Some other → HoldNone reads (writes_of other).writes
 
 -- no later entry wrote a key that the reads hold; or this is the first that did
-abbrev pub IsFirst : {E : Type 0} → (E → WriteSet) → List E → ℕ → ReadSet → Option (ℕ × List ℕ) → Type 0
-IsFirst {E} writes_of journal snapshot reads None =
+abbrev pub IsFirstConflict : {E : Type 0} → (E → WriteSet) → List E → ℕ → ReadSet → Option (ℕ × List ℕ)
+    → Type 0
+IsFirstConflict {E} writes_of journal snapshot reads None =
     (place : ℕ) (entry : E) → snapshot ≤ place → slice_get journal place ≡ Some entry
     → HoldNone reads (writes_of entry).writes
-IsFirst writes_of journal snapshot reads (Some found) =
+IsFirstConflict writes_of journal snapshot reads (Some found) =
     IsFirstLater writes_of journal snapshot reads found.0 found.1

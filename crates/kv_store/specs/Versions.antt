@@ -3,7 +3,7 @@ use Rattle.std.specs.Prelude.{◌≡◌, ℕ, ◌+◌, List, [], ◌∷◌, ◌+
 use Rattle.std.specs.Map.{lookup}
 use Rattle.std.specs.Ordering.{is_eq}
 use Rattle.conflict_sets.specs.Keys.{key_cmp}
-use Rattle.conflict_sets.specs.Rows.{value_at_key, new_row}
+use Rattle.conflict_sets.specs.Rows.{value_at_key, row_if_some}
 use Rattle.conflict_sets.specs.declared.sets.WriteSet.{WriteSet}
 use Rattle.fs_base.specs.declared.row.Row.{Row}
 use Rattle.kv_store.specs.declared.chain.Version.{Version}
@@ -60,7 +60,7 @@ KeepsChains writes_of opening journal chains =
 abbrev pub rows_of : ℕ → List (List ℕ × List Version) → List Row
 rows_of version [] = []
 rows_of version (entry ∷ chains) =
-    new_row entry.0 (value_of (last_of (up_to version entry.1))) ++ rows_of version chains
+    row_if_some entry.0 (value_of (last_of (up_to version entry.1))) ++ rows_of version chains
 
 -- no chain has a version after the one and before the other
 abbrev pub AllOutside : ℕ → ℕ → List (List ℕ × List Version) → Type 0

@@ -1,6 +1,6 @@
 ghost use Rattle.std.specs.Prelude.{◌≡◌, ◌+◌, ◌-◌, ◌*◌, ◌^◌, ◌<◌, ◌≤◌, [], ◌∷◌, ◌++◌, length, take, OnOk, OnErr, Some};
 ghost use Rattle.std.specs.Option.{option_map, option_copied};
-ghost use Rattle.kv_store.specs.Chains.{AreBelow, AreOutside, IsRising, IsSplit, up_to, last_of};
+ghost use Rattle.kv_store.specs.Chains.{AreBelow, AreOutside, AreVersionsRising, IsSplit, up_to, last_of};
 
 use crate::steps::Steps;
 use fs_base::{Memory, Text};
@@ -24,13 +24,13 @@ pub struct VersionChain {
 impl Model for VersionChain {
     ghost use Rattle.std.specs.Prelude.{List};
     ghost use Rattle.kv_store.specs.declared.chain.Version.{Version};
-    ghost use Rattle.kv_store.specs.Chains.{IsRising};
+    ghost use Rattle.kv_store.specs.Chains.{AreVersionsRising};
 
     ghost Value = { List Version };
 
     ghost view = { λ s. s.versions.items };
 
-    ghost invariant = { λ s. IsRising s.versions.items };
+    ghost invariant = { λ s. AreVersionsRising s.versions.items };
 }
 
 impl VersionChain {
@@ -116,7 +116,7 @@ fn number(last: Option<&Version>) -> Option<u64>
 
 /// The number of versions that are at most this one, where nobody counts.
 fn place_in(versions: &[Version], version: u64) -> usize
-    requires { IsRising versions.now }
+    requires { AreVersionsRising versions.now }
     ensures { IsSplit versions.now version result }
 {
     uncounted::<Brand>(versions, version, Blank::new(1))
@@ -126,7 +126,7 @@ fn uncounted<L: Ledger>(versions: &[Version], version: u64, blank: Blank) -> usi
     requires name { blank.name ≡ L.name }
     requires parts { blank.parts ≡ L.parts }
     requires some { 0 < blank.parts }
-    requires rising { IsRising versions.now }
+    requires rising { AreVersionsRising versions.now }
     ensures { IsSplit versions.now version result }
 {
     let mut steps = Steps::<L>::new(blank);
@@ -135,7 +135,7 @@ fn uncounted<L: Ledger>(versions: &[Version], version: u64, blank: Blank) -> usi
 
 /// The number of versions that are at most this one.
 fn place_of<L: Ledger>(versions: &[Version], version: u64, steps: &mut Steps<L>) -> usize
-    requires { IsRising versions.now }
+    requires { AreVersionsRising versions.now }
     ensures split { IsSplit versions.now version result }
     ensures cost { 2 ^ (steps.new - steps.old) ≤ 2 * length versions.now + 1 }
     ensures counts { steps.old ≤ steps.new }

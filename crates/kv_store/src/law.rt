@@ -5,7 +5,7 @@ ghost use Rattle.conflict_sets.specs.declared.sets.ReadSet.{ReadSet};
 ghost use Rattle.conflict_sets.specs.Rows.{IsAscending};
 ghost use Rattle.kv_store.specs.Commits.{IsCommitted};
 ghost use Rattle.kv_store.specs.Journal.{rows_at, first_later};
-ghost use Rattle.kv_store.specs.Later.{IsFirst};
+ghost use Rattle.kv_store.specs.Later.{IsFirstConflict};
 
 use conflict_sets::EntryLaw;
 
@@ -25,5 +25,6 @@ pub fn optimistic_commits<E: EntryLaw>()
 /// law.
 pub fn first_later_is_least<E: EntryLaw>()
     ensures { (journal : List E) (snapshot : ℕ) (reads : ReadSet)
-        → IsFirst E.writes_of journal snapshot reads (first_later E.writes_of journal snapshot reads) }
+        → IsFirstConflict E.writes_of journal snapshot reads
+        (first_later E.writes_of journal snapshot reads) }
 {}

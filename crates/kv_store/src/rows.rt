@@ -4,7 +4,7 @@ ghost use Rattle.std.specs.BTreeMap.{IsOrdered};
 ghost use Rattle.std.specs.Ordering.{is_gt, nat_cmp};
 ghost use Rattle.std.specs.Cmp.Lexicographic.{slice_cmp};
 ghost use Rattle.conflict_sets.specs.Keys.{key_cmp};
-ghost use Rattle.conflict_sets.specs.Rows.{new_row, rows_between};
+ghost use Rattle.conflict_sets.specs.Rows.{row_if_some, rows_between};
 ghost use Rattle.kv_store.specs.Chains.{up_to, last_of, value_of};
 ghost use Rattle.kv_store.specs.Versions.{rows_of};
 
@@ -54,7 +54,7 @@ fn first_rows(
 /// Adds the row of a key, where its last version gives it a value.
 fn add_row(rows: &mut Vec<Row>, key: &Text, last: Option<&Version>) -> Result<(), Memory>
     ensures { OnOk result
-        (rows.new.items ≡ rows.old.items ++ new_row key.now (value_of (option_copied last.entry))) }
+        (rows.new.items ≡ rows.old.items ++ row_if_some key.now (value_of (option_copied last.entry))) }
 {
     let Some(last) = last else {
         return Ok(());

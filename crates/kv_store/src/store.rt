@@ -1,7 +1,7 @@
 ghost use Rattle.std.specs.Prelude.{◌≡◌, ◌≤◌, ◌<◌, ◌+◌, [], ◌∷◌, ◌++◌, length, take, None, IfOk, IfErr, IfSome, IfNone, OnOk, ℕ};
 ghost use Rattle.conflict_sets.specs.Rows.{IsAscending, value_at_key, rows_between};
-ghost use Rattle.conflict_sets.specs.Reads.{Agrees};
-ghost use Rattle.kv_store.specs.Journal.{rows_at, last_writer, first_later, IsRun};
+ghost use Rattle.conflict_sets.specs.Reads.{RowsAgree};
+ghost use Rattle.kv_store.specs.Journal.{rows_at, last_writer, first_later, IsAgreedJournal};
 
 use crate::chains::{Chains, add_all, opening_chains, seen};
 use crate::later::{first_after, later_in};
@@ -57,7 +57,7 @@ pub struct Refused<E> {
 }
 
 impl<E: EntryLaw> KvState<E> {
-    ghost use Rattle.kv_store.specs.Causes.{HasCause};
+    ghost use Rattle.kv_store.specs.Causes.{HasCommitCause};
 
     /// A store with these rows and an empty journal.
     pub fn new(alloc: Global, config: &Config, rows: Items<Row>) -> Result<KvState<E>, Memory>
@@ -89,7 +89,7 @@ impl<E: EntryLaw> KvState<E> {
         ensures few { length self.now.journal ≤ JOURNAL_ENTRIES }
         ensures good { (n : ℕ)
             → E.good self.now.config (rows_at E.writes_of self.now.opening self.now.journal n) }
-        ensures run { IsRun E.reads_of E.writes_of (E.sound self.now.config) self.now.opening self.now.journal }
+        ensures run { IsAgreedJournal E.reads_of E.writes_of (E.sound self.now.config) self.now.opening self.now.journal }
     {
         let _opening = &self.opening;
     }
@@ -135,14 +135,14 @@ impl<E: EntryLaw> KvState<E> {
     pub fn commit(&mut self, snapshot: u64, entry: E) -> Result<u64, Refused<E>>
         requires snapshot { snapshot ≤ length self.old.journal }
         requires sound { E.sound self.old.config entry }
-        requires agreed { Agrees (rows_at E.writes_of self.old.opening self.old.journal snapshot) (E.reads_of entry) }
+        requires agreed { RowsAgree (rows_at E.writes_of self.old.opening self.old.journal snapshot) (E.reads_of entry) }
         ensures ok { OnOk result (self.new ≡ record self.old { journal = self.old.journal ++ entry ∷ [] }) }
         ensures version { IfOk result (λ version. version ≡ length self.old.journal + 1) }
         ensures alone { OnOk result (first_later E.writes_of self.old.journal snapshot (E.reads_of entry) ≡ None) }
         ensures room { OnOk result (length self.old.journal < JOURNAL_ENTRIES) }
         ensures err { IfErr result (λ refused. (self.new ≡ self.old) × (refused.entry ≡ entry)) }
         ensures cause { IfErr result
-            (λ refused. HasCause (first_later E.writes_of self.old.journal snapshot (E.reads_of entry))
+            (λ refused. HasCommitCause (first_later E.writes_of self.old.journal snapshot (E.reads_of entry))
             (length self.old.journal) refused.why) }
     {
         if let Some(why) = self.refusal(snapshot, entry.reads()) {
@@ -168,7 +168,7 @@ impl<E: EntryLaw> KvState<E> {
         ensures alone { IfNone result (first_later E.writes_of self.now.journal snapshot reads.now ≡ None) }
         ensures room { IfNone result (length self.now.journal < JOURNAL_ENTRIES) }
         ensures cause { IfSome result
-            (λ why. HasCause (first_later E.writes_of self.now.journal snapshot reads.now)
+            (λ why. HasCommitCause (first_later E.writes_of self.now.journal snapshot reads.now)
             (length self.now.journal) why) }
     {
         let place = self.first_touched(snapshot, reads);

@@ -12,7 +12,7 @@ use Rattle.txn_task.specs.declared.outcome.Outcome.{Outcome}
 use Rattle.path_walk.specs.Footprint.{footprint}
 use Rattle.path_walk.specs.Owed.{IsNewAsk, MayAsk}
 use Rattle.meta_task.specs.Steps.{GoesTo, Repeats}
-use Rattle.meta_task.specs.Task.{TaskView, Fits, Asks, GoesOnAfter, IsToldReply, learnt, reads_with, HasOrigin}
+use Rattle.meta_task.specs.Task.{TaskView, FitsTask, Asks, GoesOnAfter, IsToldReply, learnt, reads_with, HasOrigin}
 use Rattle.meta_task.specs.declared.waiting.Waiting.{Waiting}
 use Rattle.meta_task.specs.declared.waiting.Waiting.TheVariants as waits
 
@@ -28,7 +28,7 @@ looks known w ask is begun fresh may = absurd fresh
 abbrev ended : TaskView → TaskView
 ended task = record task { waiting = waits.Ended }
 
-pub learnt_noted : (old : TaskView) (ask : Ask) (answer : Answer) → old.waiting ≡ waits.Reading ask → Fits (waits.Reading ask) answer → record old { waiting = waits.Ended; reads = noted old.reads ask answer } ≡ ended (learnt old answer)
+pub learnt_noted : (old : TaskView) (ask : Ask) (answer : Answer) → old.waiting ≡ waits.Reading ask → FitsTask (waits.Reading ask) answer → record old { waiting = waits.Ended; reads = noted old.reads ask answer } ≡ ended (learnt old answer)
 learnt_noted old (asks.Get key) (answers.Got got) is fits = ap (λ (w : Waiting). record old { waiting = waits.Ended; reads = reads_with old.reads w (answers.Got got) }) (sym is)
 learnt_noted old (asks.Range lo hi limit) (answers.Rows rows) is fits = ap (λ (w : Waiting). record old { waiting = waits.Ended; reads = reads_with old.reads w (answers.Rows rows) }) (sym is)
 learnt_noted old ask answer is fits = absurd fits

@@ -10,7 +10,7 @@ use Rattle.fs_base.specs.declared.code.Code.TheVariants.{Stale}
 use Rattle.fs_base.specs.declared.reply.Reply.TheVariants.{Refused}
 use Rattle.key_schema.specs.Keys.{spelled_key}
 use Rattle.key_schema.specs.declared.key.Key.TheVariants as keys
-use Rattle.row_records.specs.Rows.{spelled_kept, kept_of}
+use Rattle.row_records.specs.Rows.{spelled_kept, read_kept}
 use Rattle.row_records.specs.declared.rows.KeptRow.{KeptRow}
 use Rattle.row_tree.specs.TypedRows.{TypedRows}
 use Rattle.row_tree.proofs.OneValue.{kepts}
@@ -24,17 +24,17 @@ use Rattle.path_walk.specs.Footprint.{footprint}
 use Rattle.path_walk.specs.Owed.{HasRead, IsKeptBefore}
 use Rattle.path_walk.specs.Sound.{IsJustifiedReply}
 use Rattle.path_walk.proofs.WholeLaws.{before_none, before_earlier, kept_later, kept_reads_all}
-use Rattle.meta_task.specs.Steps.{IsEarlier, IsRowOf, TellsKept, TellsRow}
+use Rattle.meta_task.specs.Steps.{IsKeptEarlier, IsRowOf, TellsKept, TellsRow}
 use Rattle.meta_task.specs.Task.{no_reads}
 use Rattle.meta_task.specs.declared.kept.Kept.{Kept}
 use Rattle.meta_task.specs.declared.kept.Kept.TheVariants as kept
 
 -- ---- the row among the bytes
 
-row_is : (bytes : List ℕ) (row : KeptRow) → kept_of bytes ≡ Ok row → IsRowOf (Some bytes) row
+row_is : (bytes : List ℕ) (row : KeptRow) → read_kept bytes ≡ Ok row → IsRowOf (Some bytes) row
 row_is bytes row read = let exact = kepts.exact bytes row read in record { found = ap Some exact.1; fits = exact.0 }
 
-pub tells_row : (bytes : List ℕ) (row : KeptRow) (number : ℕ) (k : Kept) → kept_of bytes ≡ Ok row → TellsRow row number k → TellsKept (Some bytes) number k
+pub tells_row : (bytes : List ℕ) (row : KeptRow) (number : ℕ) (k : Kept) → read_kept bytes ≡ Ok row → TellsRow row number k → TellsKept (Some bytes) number k
 tells_row bytes row number kept.Earlier read h = inr (row, read, h)
 tells_row bytes row number (kept.Same reply) read h = (row, row_is bytes row read, h.0, h.1)
 tells_row bytes row number (kept.Later later) read h = (row, row_is bytes row read, h.0, h.1)
@@ -47,7 +47,7 @@ kept_reads q value = with_key no_reads (spelled_key (keys.Idem q.client)) value
 found_at : (q : Request) (value : Option (List ℕ)) → read_of (kept_reads q value).keys (spelled_key (keys.Idem q.client)) ≡ Some value
 found_at q value = rw (key_self (spelled_key (keys.Idem q.client))) refl
 
-pub kept_earlier : (q : Request) (value : Option (List ℕ)) → q.client.0 < 2 ^ 128 → IsEarlier value q.number → IsKeptBefore (kept_reads q value) q
+pub kept_earlier : (q : Request) (value : Option (List ℕ)) → q.client.0 < 2 ^ 128 → IsKeptEarlier value q.number → IsKeptBefore (kept_reads q value) q
 kept_earlier q None client h = before_none (kept_reads q None) q (kept_absent (kept_reads q None) q.client client (found_at q None))
 kept_earlier q (Some bytes) client (inl bad) = before_none (kept_reads q (Some bytes)) q (kept_never (kept_reads q (Some bytes)) q.client bytes client (found_at q (Some bytes)) bad)
 kept_earlier q (Some bytes) client (inr row) = before_earlier (kept_reads q (Some bytes)) q row.0 (kept_there (kept_reads q (Some bytes)) q.client bytes row.0 client (found_at q (Some bytes)) row.1) row.2

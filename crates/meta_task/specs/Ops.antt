@@ -24,33 +24,33 @@ IsOfKind kinds.Create call = create.IsCreateCall call
 IsOfKind kinds.Link call = link.IsLinkCall call
 IsOfKind kinds.Rename call = rename.IsRenameCall call
 
-abbrev pub config_of : OpTask → Settings
-config_of (Attr task) = task.config
-config_of (Create task) = task.config
-config_of (Link task) = task.config
-config_of (Rename task) = task.config
+abbrev pub op_config : OpTask → Settings
+op_config (Attr task) = task.config
+op_config (Create task) = task.config
+op_config (Link task) = task.config
+op_config (Rename task) = task.config
 
-abbrev pub effect_of : OpTask → Tree → Effect
-effect_of (Attr task) = attr.effect_of task
-effect_of (Create task) = create.effect_of task
-effect_of (Link task) = link.effect_of task
-effect_of (Rename task) = rename.effect_of task
+abbrev pub op_effect : OpTask → Tree → Effect
+op_effect (Attr task) = attr.attr_effect task
+op_effect (Create task) = create.create_effect task
+op_effect (Link task) = link.link_effect task
+op_effect (Rename task) = rename.rename_effect task
 
-abbrev pub areas_of : OpTask → Tree → List Area
-areas_of (Attr task) = attr.areas_of task
-areas_of (Create task) = create.areas_of task
-areas_of (Link task) = link.areas_of task
-areas_of (Rename task) = rename.areas_of task
+abbrev pub op_areas : OpTask → Tree → List Area
+op_areas (Attr task) = attr.attr_areas task
+op_areas (Create task) = create.create_areas task
+op_areas (Link task) = link.link_areas task
+op_areas (Rename task) = rename.rename_areas task
 
-abbrev pub IsReady : OpTask → Type 0
-IsReady (Attr task) = attr.IsReady task
-IsReady (Create task) = create.IsReady task
-IsReady (Link task) = link.IsReady task
-IsReady (Rename task) = rename.IsReady task
+abbrev pub IsOpReady : OpTask → Type 0
+IsOpReady (Attr task) = attr.IsAttrReady task
+IsOpReady (Create task) = create.IsCreateReady task
+IsOpReady (Link task) = link.IsLinkReady task
+IsOpReady (Rename task) = rename.IsRenameReady task
 
 -- a task of the request, before its first step
-pub record IsFirst (C : Settings) (q : Request) (op : OpTask) : Type 0 where
-  pub config : config_of op ≡ C
-  pub effect : (T : Tree) → effect_of op T ≡ effect C T q
-  pub areas : (T : Tree) → areas_of op T ≡ call_areas C T q q.call
-  pub ready : IsReady op
+pub record IsFirstOp (C : Settings) (q : Request) (op : OpTask) : Type 0 where
+  pub config : op_config op ≡ C
+  pub effect : (T : Tree) → op_effect op T ≡ effect C T q
+  pub areas : (T : Tree) → op_areas op T ≡ call_areas C T q q.call
+  pub ready : IsOpReady op

@@ -16,7 +16,7 @@ use Rattle.txn_task.specs.declared.messages.Ask.TheVariants as asks
 use Rattle.path_walk.specs.Footprint.{footprint}
 use Rattle.path_walk.specs.Owed.{IsNewAsk, IsKeptBefore, KeepsEffect, KeepsAreas}
 use Rattle.path_walk.specs.Requests.{IsRequest}
-use Rattle.meta_task.specs.Ops.{config_of, effect_of, areas_of, IsReady}
+use Rattle.meta_task.specs.Ops.{op_config, op_effect, op_areas, IsOpReady}
 use Rattle.meta_task.specs.Task.{TaskView, HasOutcome, no_reads}
 use Rattle.meta_task.specs.declared.op.OpTask.{OpTask}
 use Rattle.meta_task.specs.declared.state.State.{State}
@@ -37,7 +37,7 @@ view_of s = record {
 }
 
 -- the request is one that a server takes, with a client and a number of their sizes
-pub record IsTaken (C : Settings) (q : Request) : Type 0 where
+pub record IsRequestTaken (C : Settings) (q : Request) : Type 0 where
   pub valid : IsRequest C q
   pub client : q.client.0 < 2 ^ 128
   pub number : q.number < 2 ^ 64
@@ -47,22 +47,22 @@ abbrev pub HasLeft : Tries → Type 0
 HasLeft tries = length tries.conflicts < tries.attempts
 
 -- a query, or an update that is newer than its client's kept reply, which was read
-abbrev pub IsNew : Request → ReadSet → Type 0
-IsNew q reads =
+abbrev pub IsNewRequest : Request → ReadSet → Type 0
+IsNewRequest q reads =
     (is_query q.call ≡ true)
     ⊎ ((is_query q.call ≡ false) × IsKeptBefore reads q × IsKeyRead reads (keys.Idem q.client))
 
 -- an operation of the request under way: it comes to the same, and reads what is left
-pub record IsUnder (C : Settings) (q : Request) (reads : ReadSet) (op : OpTask) : Type 0 where
-  pub config : config_of op ≡ C
-  pub ready : IsReady op
-  pub effect : KeepsEffect C (λ T. effect C T q) (effect_of op) reads
-  pub areas : KeepsAreas C (λ T. footprint C T q) (areas_of op) reads
-  pub new : IsNew q reads
+pub record IsOpUnderWay (C : Settings) (q : Request) (reads : ReadSet) (op : OpTask) : Type 0 where
+  pub config : op_config op ≡ C
+  pub ready : IsOpReady op
+  pub effect : KeepsEffect C (λ T. effect C T q) (op_effect op) reads
+  pub areas : KeepsAreas C (λ T. footprint C T q) (op_areas op) reads
+  pub new : IsNewRequest q reads
 
 -- an ask of the operation
 pub record IsAsking (C : Settings) (q : Request) (reads : ReadSet) (ask : Ask) (op : OpTask) : Type 0 where
-  pub under : IsUnder C q reads op
+  pub under : IsOpUnderWay C q reads op
   pub fresh : IsNewAsk reads ask
 
 -- the first ask of an update: its client's kept reply
@@ -76,8 +76,8 @@ IsReading C q reads ask (Some op) = IsAsking C q reads ask op
 IsReading C q reads ask None = IsAskingKept q reads ask
 
 -- between an answer and the next ask, within an attempt
-pub record IsGoing (s : State) : Type 0 where
-  pub taken : IsTaken s.config s.request
+pub record IsTaskGoing (s : State) : Type 0 where
+  pub taken : IsRequestTaken s.config s.request
   pub ended : s.waiting ≡ waits.Ended
   pub unsaid : s.outcome ≡ None
   pub begun : s.begun ≡ true
@@ -89,29 +89,29 @@ pub record IsWaiting (s : State) (ask : Ask) : Type 0 where
   pub left : HasLeft s.retry
   pub asks : IsReading s.config s.request s.txn.reads ask s.op
 
-abbrev pub IsKnown : State → Waiting → Type 0
-IsKnown s waits.Fresh = (s.begun ≡ false) × HasLeft s.retry
-IsKnown s waits.Beginning = HasLeft s.retry
-IsKnown s (waits.Reading ask) = IsWaiting s ask
-IsKnown s (waits.Committing reply) = HasLeft s.retry
-IsKnown s waits.Ended = Unit {0}
-IsKnown s waits.Failed = ⊥
+abbrev pub IsWaitKnown : State → Waiting → Type 0
+IsWaitKnown s waits.Fresh = (s.begun ≡ false) × HasLeft s.retry
+IsWaitKnown s waits.Beginning = HasLeft s.retry
+IsWaitKnown s (waits.Reading ask) = IsWaiting s ask
+IsWaitKnown s (waits.Committing reply) = HasLeft s.retry
+IsWaitKnown s waits.Ended = Unit {0}
+IsWaitKnown s waits.Failed = ⊥
 
 pub record IsState (s : State) : Type 0 where
-  pub taken : IsTaken s.config s.request
-  pub known : IsKnown s s.waiting
+  pub taken : IsRequestTaken s.config s.request
+  pub known : IsWaitKnown s s.waiting
   pub outcome : HasOutcome s.waiting s.outcome
 
 -- memory ran out, or the state of a task that goes on
-abbrev pub IsHeld : State → Type 0
-IsHeld s = ((s.waiting ≡ waits.Failed) × (s.outcome ≡ None)) ⊎ IsState s
+abbrev pub IsFailedOrState : State → Type 0
+IsFailedOrState s = ((s.waiting ≡ waits.Failed) × (s.outcome ≡ None)) ⊎ IsState s
 
 -- after an answer that is among the reads: the operation is still that of the request, or what stands at the
 -- client's key was read
-abbrev pub IsNoted : Option OpTask → State → State → Answer → Type 0
-IsNoted (Some op) old new answer = IsUnder new.config new.request new.txn.reads op
-IsNoted None old new (answers.Got got) =
+abbrev pub IsAnswerNoted : Option OpTask → State → State → Answer → Type 0
+IsAnswerNoted (Some op) old new answer = IsOpUnderWay new.config new.request new.txn.reads op
+IsAnswerNoted None old new (answers.Got got) =
     (is_query new.request.call ≡ false)
     × (new.txn.reads ≡ with_key no_reads (spelled_key (keys.Idem new.request.client)) got.value)
     × (old.waiting ≡ waits.Reading (asks.Get (keys.Idem old.request.client)))
-IsNoted None old new answer = ⊥
+IsAnswerNoted None old new answer = ⊥

@@ -3,7 +3,7 @@ use Rattle.std.specs.Prelude.{◌≡◌, ◌⊎◌, ◌<◌, ℕ, IsTrue, List, 
 use Rattle.std.specs.Prelude.{Ok, Err}
 use Rattle.conflict_sets.specs.declared.sets.Got.{Got}
 use Rattle.fs_base.specs.declared.reply.Reply.{Reply}
-use Rattle.row_records.specs.Rows.{spelled_kept, is_kept, kept_of}
+use Rattle.row_records.specs.Rows.{spelled_kept, is_kept, read_kept}
 use Rattle.row_records.specs.declared.rows.KeptRow.{KeptRow}
 use Rattle.txn_task.specs.declared.messages.Answer.{Answer}
 use Rattle.txn_task.specs.declared.messages.Answer.TheVariants as answers
@@ -22,11 +22,11 @@ use Rattle.meta_task.specs.declared.waiting.Waiting.TheVariants as waits
 -- ---- the client's kept reply, by the bytes that stand there
 
 -- none, no row, or the row of an earlier request
-abbrev pub IsEarlier : Option (List ℕ) → ℕ → Type 0
-IsEarlier None number = Unit {0}
-IsEarlier (Some bytes) number =
-    ((place : ℕ) × (kept_of bytes ≡ Err place))
-    ⊎ ((row : KeptRow) × (kept_of bytes ≡ Ok row) × (row.number < number))
+abbrev pub IsKeptEarlier : Option (List ℕ) → ℕ → Type 0
+IsKeptEarlier None number = Unit {0}
+IsKeptEarlier (Some bytes) number =
+    ((place : ℕ) × (read_kept bytes ≡ Err place))
+    ⊎ ((row : KeptRow) × (read_kept bytes ≡ Ok row) × (row.number < number))
 
 pub record IsRowOf (value : Option (List ℕ)) (row : KeptRow) : Type 0 where
   pub found : value ≡ Some (spelled_kept row)
@@ -39,7 +39,7 @@ TellsRow row number (kept.Same reply) = (row.number ≡ number) × (row.reply �
 TellsRow row number (kept.Later later) = (row.number ≡ later) × (number < later)
 
 abbrev pub TellsKept : Option (List ℕ) → ℕ → Kept → Type 0
-TellsKept value number kept.Earlier = IsEarlier value number
+TellsKept value number kept.Earlier = IsKeptEarlier value number
 TellsKept value number (kept.Same reply) =
     (row : KeptRow) × IsRowOf value row × (row.number ≡ number) × (row.reply ≡ reply)
 TellsKept value number (kept.Later later) =
@@ -47,13 +47,13 @@ TellsKept value number (kept.Later later) =
 
 -- ---- the next ask of an attempt
 
-abbrev pub IsGot : Answer → Type 0
-IsGot (answers.Got got) = Unit {0}
-IsGot answer = ⊥
+abbrev pub IsRowGot : Answer → Type 0
+IsRowGot (answers.Got got) = Unit {0}
+IsRowGot answer = ⊥
 
-abbrev pub IsPending : Waiting → Type 0
-IsPending (waits.Reading ask) = Unit {0}
-IsPending waiting = ⊥
+abbrev pub IsReadPending : Waiting → Type 0
+IsReadPending (waits.Reading ask) = Unit {0}
+IsReadPending waiting = ⊥
 
 abbrev pub IsCommitting : Waiting → Type 0
 IsCommitting (waits.Committing reply) = Unit {0}

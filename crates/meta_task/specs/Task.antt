@@ -59,20 +59,20 @@ new_task C attempts q =
 -- ---- answers
 
 -- the answer is one for what the task waits for
-abbrev pub Fits : Waiting → Answer → Type 0
-Fits waits.Fresh answers.Start = Unit {0}
-Fits waits.Beginning (answers.Begun version) = Unit {0}
-Fits (waits.Reading (asks.Get key)) (answers.Got got) = Unit {0}
-Fits (waits.Reading (asks.Range lo hi limit)) (answers.Rows rows) = Unit {0}
-Fits (waits.Committing reply) (answers.Committed version) = Unit {0}
-Fits (waits.Committing reply) (answers.Conflict version key) = Unit {0}
-Fits (waits.Committing reply) answers.StoreFull = Unit {0}
-Fits waiting answer = ⊥
+abbrev pub FitsTask : Waiting → Answer → Type 0
+FitsTask waits.Fresh answers.Start = Unit {0}
+FitsTask waits.Beginning (answers.Begun version) = Unit {0}
+FitsTask (waits.Reading (asks.Get key)) (answers.Got got) = Unit {0}
+FitsTask (waits.Reading (asks.Range lo hi limit)) (answers.Rows rows) = Unit {0}
+FitsTask (waits.Committing reply) (answers.Committed version) = Unit {0}
+FitsTask (waits.Committing reply) (answers.Conflict version key) = Unit {0}
+FitsTask (waits.Committing reply) answers.StoreFull = Unit {0}
+FitsTask waiting answer = ⊥
 
 -- a task that has failed takes any answer
 abbrev pub MayTake : Waiting → Answer → Type 0
 MayTake waits.Failed answer = Unit {0}
-MayTake waiting answer = Fits waiting answer
+MayTake waiting answer = FitsTask waiting answer
 
 -- the reads with what an answer to the ask that waits tells
 abbrev pub reads_with : ReadSet → Waiting → Answer → ReadSet
@@ -108,12 +108,12 @@ pub record IsKeptReply (task : TaskView) (got : Got) (outcome : Outcome) : Type 
 
 -- what shows that an uncommitted reply isn't that of an entry: a query, a new number, or a number that is
 -- refused as stale; else a kept reply could be told as one that was only seen
-abbrev pub IsStale : Reply → Type 0
-IsStale reply = (kept : ℕ) × (reply ≡ Refused (codes.Stale kept))
+abbrev pub IsReplyStale : Reply → Type 0
+IsReplyStale reply = (kept : ℕ) × (reply ≡ Refused (codes.Stale kept))
 
 abbrev pub ShowsNew : TaskView → Reply → Type 0
 ShowsNew task reply =
-    (is_query task.request.call ≡ true) ⊎ (IsKeptBefore task.reads task.request ⊎ IsStale reply)
+    (is_query task.request.call ≡ true) ⊎ (IsKeptBefore task.reads task.request ⊎ IsReplyStale reply)
 
 -- what was read tells the reply
 pub record IsToldReply (task : TaskView) (outcome : Outcome) : Type 0 where
@@ -130,14 +130,14 @@ pub record IsMadeReply (task : TaskView) (at : ℕ) (outcome : Outcome) : Type 0
   pub mark : outcome.committed ≡ true
 
 -- each allowed attempt met a conflict
-pub record IsSpent (task : TaskView) (outcome : Outcome) : Type 0 where
+pub record AreAttemptsSpent (task : TaskView) (outcome : Outcome) : Type 0 where
   pub reply : outcome.reply ≡ Refused codes.Conflict
   pub version : outcome.version ≡ task.snapshot
   pub mark : outcome.committed ≡ false
   pub attempts : length task.conflicts ≡ task.attempts
 
 -- the journal takes no more
-pub record IsFull (task : TaskView) (outcome : Outcome) : Type 0 where
+pub record IsStoreFull (task : TaskView) (outcome : Outcome) : Type 0 where
   pub reply : outcome.reply ≡ Refused codes.StoreFull
   pub version : outcome.version ≡ task.snapshot
   pub mark : outcome.committed ≡ false
@@ -148,8 +148,8 @@ HasOrigin old new (answers.Begun version) outcome = IsToldReply new outcome
 HasOrigin old new (answers.Got got) outcome = IsKeptReply old got outcome ⊎ IsToldReply new outcome
 HasOrigin old new (answers.Rows rows) outcome = IsToldReply new outcome
 HasOrigin old new (answers.Committed version) outcome = IsMadeReply old version outcome
-HasOrigin old new (answers.Conflict version key) outcome = IsSpent new outcome
-HasOrigin old new answers.StoreFull outcome = IsFull new outcome
+HasOrigin old new (answers.Conflict version key) outcome = AreAttemptsSpent new outcome
+HasOrigin old new answers.StoreFull outcome = IsStoreFull new outcome
 HasOrigin old new answer outcome = ⊥
 
 -- ---- asks
@@ -168,7 +168,7 @@ GoesOnAfter (answers.Rows rows) = Unit {0}
 GoesOnAfter answer = ⊥
 
 -- the first of the request's footprint that this attempt hasn't read
-pub record IsRead (old : TaskView) (answer : Answer) (new : TaskView) (ask : Ask) : Type 0 where
+pub record IsReadAsked (old : TaskView) (answer : Answer) (new : TaskView) (ask : Ask) : Type 0 where
   pub is : new ≡ record (learnt old answer) { waiting = waits.Reading ask }
   pub begun : new.begun ≡ true
   pub goes_on : GoesOnAfter answer
@@ -180,8 +180,8 @@ abbrev pub Asks : TaskView → Answer → TaskView → Ask → Type 0
 Asks old answer new asks.Begin =
     (new ≡ record (learnt old answer) { waiting = waits.Beginning }) × (new.begun ≡ false)
     × BeginsAfter answer × (length new.conflicts < new.attempts)
-Asks old answer new (asks.Get key) = IsRead old answer new (asks.Get key)
-Asks old answer new (asks.Range lo hi limit) = IsRead old answer new (asks.Range lo hi limit)
+Asks old answer new (asks.Get key) = IsReadAsked old answer new (asks.Get key)
+Asks old answer new (asks.Range lo hi limit) = IsReadAsked old answer new (asks.Range lo hi limit)
 Asks old answer new (asks.Commit entry) =
     (new ≡ record (learnt old answer) { waiting = waits.Committing entry.reply }) × (new.begun ≡ true)
     × GoesOnAfter answer

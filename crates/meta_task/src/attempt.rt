@@ -7,8 +7,8 @@ ghost use Rattle.key_schema.specs.Keys.{spelled_key};
 ghost use Rattle.key_schema.specs.declared.key.Key.TheVariants as keys;
 ghost use Rattle.row_tree.specs.Values.{KeptValue, spelled_value};
 ghost use Rattle.txn_task.specs.Writes.{set_write};
-ghost use Rattle.meta_task.specs.Ops.{areas_of, effect_of};
-ghost use Rattle.meta_task.specs.State.{view_of, IsState, IsGoing, IsReading, IsUnder, IsNew};
+ghost use Rattle.meta_task.specs.Ops.{op_areas, op_effect};
+ghost use Rattle.meta_task.specs.State.{view_of, IsState, IsTaskGoing, IsReading, IsOpUnderWay, IsNewRequest};
 ghost use Rattle.meta_task.specs.Steps.{GoesTo};
 ghost use Rattle.meta_task.specs.Task.{HasReadAll, ShowsNew};
 
@@ -84,7 +84,7 @@ fn parts_of(alloc: Global, request: &Request, txn: &mut Txn, reply: &Reply) -> R
 impl State {
     /// An ask of rows, which waits for its answer.
     pub(crate) fn look(&mut self, op: Option<OpTask>, ask: Ask) -> Result<Ask, Memory>
-        requires going { IsGoing self.old }
+        requires going { IsTaskGoing self.old }
         requires unwritten { self.old.txn.writes ≡ [] }
         requires asks { IsReading self.old.config self.old.request self.old.txn.reads ask op }
         requires fresh { IsNewAsk self.old.txn.reads ask }
@@ -101,7 +101,7 @@ impl State {
 
     /// The end, with a reply that was told from what was read.
     pub(crate) fn tell(&mut self, reply: Reply) -> Result<Ask, Memory>
-        requires going { IsGoing self.old }
+        requires going { IsTaskGoing self.old }
         requires told { IsJustifiedReply self.old.config self.old.request self.old.txn.reads reply }
         requires new { ShowsNew (view_of self.old) reply }
         requires all { HasReadAll (view_of self.old) }
@@ -115,7 +115,7 @@ impl State {
 
     /// The commit, with the kept reply as its last write.
     fn commit(&mut self, reply: Reply, asked: Items<Asked>) -> Result<Ask, Memory>
-        requires going { IsGoing self.old }
+        requires going { IsTaskGoing self.old }
         requires sound { (writes : WriteSet)
             → writes.writes
             ≡ set_write (spelled_key (keys.Idem self.old.request.client))
@@ -152,9 +152,9 @@ impl State {
     /// would
     /// commit; any reply is right then.
     fn commit_of(&mut self, op: OpTask, reply: Reply, asked: Items<Asked>) -> Result<Ask, Memory>
-        requires going { IsGoing self.old }
-        requires under { IsUnder self.old.config self.old.request self.old.txn.reads op }
-        requires made { IsOpCommit self.old.config (effect_of op) self.old.txn reply asked }
+        requires going { IsTaskGoing self.old }
+        requires under { IsOpUnderWay self.old.config self.old.request self.old.txn.reads op }
+        requires made { IsOpCommit self.old.config (op_effect op) self.old.txn reply asked }
         requires all { HasReadAll (view_of self.old) }
         ensures state { OnOk result (IsState self.new) }
         ensures goes { IfOk result (λ next. GoesTo (view_of self.old) (view_of self.new) next) }
@@ -169,9 +169,9 @@ impl State {
 
     /// What the operation's step comes to.
     fn settle(&mut self, op: OpTask, step: OpStep) -> Result<Ask, Memory>
-        requires going { IsGoing self.old }
-        requires under { IsUnder self.old.config self.old.request self.old.txn.reads op }
-        requires step { IsOpStep self.old.config (areas_of op) (effect_of op) self.old.txn step }
+        requires going { IsTaskGoing self.old }
+        requires under { IsOpUnderWay self.old.config self.old.request self.old.txn.reads op }
+        requires step { IsOpStep self.old.config (op_areas op) (op_effect op) self.old.txn step }
         requires unwritten { LeavesWrites step self.old.txn.writes }
         ensures state { OnOk result (IsState self.new) }
         ensures goes { IfOk result (λ next. GoesTo (view_of self.old) (view_of self.new) next) }
@@ -194,9 +194,9 @@ impl State {
 
     /// The operation goes on, once the answer is among the reads.
     pub(crate) fn step(&mut self, op: OpTask, answer: Answer) -> Result<Ask, Memory>
-        requires going { IsGoing self.old }
+        requires going { IsTaskGoing self.old }
         requires unwritten { self.old.txn.writes ≡ [] }
-        requires under { IsUnder self.old.config self.old.request self.old.txn.reads op }
+        requires under { IsOpUnderWay self.old.config self.old.request self.old.txn.reads op }
         ensures state { OnOk result (IsState self.new) }
         ensures goes { IfOk result (λ next. GoesTo (view_of self.old) (view_of self.new) next) }
     {
@@ -208,9 +208,9 @@ impl State {
 
     /// The operation's first step.
     pub(crate) fn begin(&mut self) -> Result<Ask, Memory>
-        requires going { IsGoing self.old }
+        requires going { IsTaskGoing self.old }
         requires unwritten { self.old.txn.writes ≡ [] }
-        requires new { IsNew self.old.request self.old.txn.reads }
+        requires new { IsNewRequest self.old.request self.old.txn.reads }
         ensures state { OnOk result (IsState self.new) }
         ensures goes { IfOk result (λ next. GoesTo (view_of self.old) (view_of self.new) next) }
     {

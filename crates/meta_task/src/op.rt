@@ -5,7 +5,7 @@ ghost use Rattle.op_attr.specs.Attr.{IsAttrCall};
 ghost use Rattle.op_create.specs.Create.{IsCreateCall};
 ghost use Rattle.op_link.specs.Link.{IsLinkCall};
 ghost use Rattle.op_rename.specs.Rename.{IsRenameCall};
-ghost use Rattle.meta_task.specs.Ops.{IsFirst, IsReady, IsOfKind, config_of, effect_of, areas_of};
+ghost use Rattle.meta_task.specs.Ops.{IsFirstOp, IsOpReady, IsOfKind, op_config, op_effect, op_areas};
 
 use fs_base::{Call, Config, Memory, Request};
 use op_attr::AttrTask;
@@ -55,7 +55,7 @@ fn kind_of(call: &Call) -> TaskKind
 fn attr(alloc: Global, request: &Request, config: &Config) -> Result<OpTask, Memory>
     requires valid { IsRequest config.now request.now }
     requires call { IsAttrCall request.now.call }
-    ensures { IfOk result (λ op. IsFirst config.now request.now op) }
+    ensures { IfOk result (λ op. IsFirstOp config.now request.now op) }
 {
     let task = AttrTask::new(alloc, request, config)?;
     Ok(OpTask::Attr(task))
@@ -64,7 +64,7 @@ fn attr(alloc: Global, request: &Request, config: &Config) -> Result<OpTask, Mem
 fn create(alloc: Global, request: &Request, config: &Config) -> Result<OpTask, Memory>
     requires valid { IsRequest config.now request.now }
     requires call { IsCreateCall request.now.call }
-    ensures { IfOk result (λ op. IsFirst config.now request.now op) }
+    ensures { IfOk result (λ op. IsFirstOp config.now request.now op) }
 {
     let task = CreateTask::new(alloc, request, config)?;
     Ok(OpTask::Create(task))
@@ -73,7 +73,7 @@ fn create(alloc: Global, request: &Request, config: &Config) -> Result<OpTask, M
 fn link(alloc: Global, request: &Request, config: &Config) -> Result<OpTask, Memory>
     requires valid { IsRequest config.now request.now }
     requires call { IsLinkCall request.now.call }
-    ensures { IfOk result (λ op. IsFirst config.now request.now op) }
+    ensures { IfOk result (λ op. IsFirstOp config.now request.now op) }
 {
     let task = LinkTask::new(alloc, request, config)?;
     Ok(OpTask::Link(task))
@@ -82,7 +82,7 @@ fn link(alloc: Global, request: &Request, config: &Config) -> Result<OpTask, Mem
 fn rename(alloc: Global, request: &Request, config: &Config) -> Result<OpTask, Memory>
     requires valid { IsRequest config.now request.now }
     requires call { IsRenameCall request.now.call }
-    ensures { IfOk result (λ op. IsFirst config.now request.now op) }
+    ensures { IfOk result (λ op. IsFirstOp config.now request.now op) }
 {
     let task = RenameTask::new(alloc, request, config)?;
     Ok(OpTask::Rename(task))
@@ -92,7 +92,7 @@ impl OpTask {
     /// The operation of a request, before its first step.
     pub fn new(alloc: Global, request: &Request, config: &Config) -> Result<OpTask, Memory>
         requires { IsRequest config.now request.now }
-        ensures { IfOk result (λ op. IsFirst config.now request.now op) }
+        ensures { IfOk result (λ op. IsFirstOp config.now request.now op) }
     {
         match kind_of(&request.call) {
             TaskKind::Attr => attr(alloc, request, config),
@@ -105,13 +105,13 @@ impl OpTask {
     /// The next step, once the answer is among the reads. Once memory ran out the answer is want of memory
     /// from then on.
     pub fn next(&mut self, alloc: Global, answer: Answer, txn: &mut Txn) -> Result<OpStep, Memory>
-        requires ready { IsReady self.old }
+        requires ready { IsOpReady self.old }
         requires writes { txn.old.writes ≡ [] }
-        ensures config { OnOk result (config_of self.new ≡ config_of self.old) }
-        ensures ready { OnOk result (IsReady self.new) }
+        ensures config { OnOk result (op_config self.new ≡ op_config self.old) }
+        ensures ready { OnOk result (IsOpReady self.new) }
         ensures step { IfOk result
-            (HasStepped (config_of self.old) (areas_of self.old) (areas_of self.new) (effect_of self.old)
-            (effect_of self.new) txn.old txn.new) }
+            (HasStepped (op_config self.old) (op_areas self.old) (op_areas self.new) (op_effect self.old)
+            (op_effect self.new) txn.old txn.new) }
     {
         match self {
             OpTask::Attr(task) => {

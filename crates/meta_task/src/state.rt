@@ -1,6 +1,6 @@
 ghost use Rattle.std.specs.Prelude.{◌≡◌, ◌↔◌, IsTrue, Some, None, IfOk, OnOk};
 ghost use Rattle.txn_task.specs.declared.messages.Ask.TheVariants as asks;
-ghost use Rattle.meta_task.specs.State.{view_of, IsState, IsTaken};
+ghost use Rattle.meta_task.specs.State.{view_of, IsState, IsRequestTaken};
 ghost use Rattle.meta_task.specs.Steps.{EndsWith};
 ghost use Rattle.meta_task.specs.declared.waiting.Waiting.TheVariants as waits;
 
@@ -78,7 +78,7 @@ impl State {
 
     /// The end, with this reply.
     pub(crate) fn end(&mut self, reply: Reply, version: u64, committed: bool) -> Result<Ask, Memory>
-        requires { IsTaken self.old.config self.old.request }
+        requires { IsRequestTaken self.old.config self.old.request }
         ensures state { OnOk result (IsState self.new) }
         ensures done { IfOk result (λ ask. ask ≡ asks.Done) }
         ensures ends { IfOk result

@@ -4,9 +4,9 @@ ghost use Rattle.key_schema.specs.declared.key.Key.TheVariants as keys;
 ghost use Rattle.tree_model.specs.Calls.{is_query as asks_only};
 ghost use Rattle.txn_task.specs.Transactions.{with_key};
 ghost use Rattle.txn_task.specs.declared.messages.Answer.TheVariants as answers;
-ghost use Rattle.meta_task.specs.State.{view_of, IsState, IsHeld, IsGoing, IsNoted};
-ghost use Rattle.meta_task.specs.Steps.{GoesTo, Repeats, IsGot, IsPending, IsCommitting};
-ghost use Rattle.meta_task.specs.Task.{Asks, Fits, MayTake, learnt, no_reads};
+ghost use Rattle.meta_task.specs.State.{view_of, IsState, IsFailedOrState, IsTaskGoing, IsAnswerNoted};
+ghost use Rattle.meta_task.specs.Steps.{GoesTo, Repeats, IsRowGot, IsReadPending, IsCommitting};
+ghost use Rattle.meta_task.specs.Task.{Asks, FitsTask, MayTake, learnt, no_reads};
 ghost use Rattle.meta_task.specs.declared.waiting.Waiting.TheVariants as waits;
 
 use crate::kept::{Kept, kept_of};
@@ -20,7 +20,7 @@ use tree_model::is_query;
 use txn_task::{Answer, Ask};
 
 fn pending(waiting: Waiting) -> Ask
-    requires { IsPending waiting }
+    requires { IsReadPending waiting }
     ensures { waiting ≡ waits.Reading result }
 {
     match waiting {
@@ -40,7 +40,7 @@ fn committing(waiting: Waiting) -> Reply
 }
 
 fn got_of(answer: Answer) -> Got
-    requires { IsGot answer }
+    requires { IsRowGot answer }
     ensures { answer ≡ answers.Got result }
 {
     match answer {
@@ -51,7 +51,7 @@ fn got_of(answer: Answer) -> Got
 
 impl State {
     fn take_start(&mut self) -> Ask
-        requires fits { Fits self.old.waiting answers.Start }
+        requires fits { FitsTask self.old.waiting answers.Start }
         requires state { IsState self.old }
         ensures state { IsState self.new }
         ensures asks { Asks (view_of self.old) answers.Start (view_of self.new) result }
@@ -62,9 +62,9 @@ impl State {
 
     /// A new attempt, in which nothing was read yet.
     fn restart(&mut self, version: u64)
-        requires fits { Fits self.old.waiting (answers.Begun version) }
+        requires fits { FitsTask self.old.waiting (answers.Begun version) }
         requires state { IsState self.old }
-        ensures going { IsGoing self.new }
+        ensures going { IsTaskGoing self.new }
         ensures unwritten { self.new.txn.writes ≡ [] }
         ensures reads { self.new.txn.reads ≡ no_reads }
         ensures known { view_of self.new
@@ -77,7 +77,7 @@ impl State {
 
     /// An update looks at its client's kept reply first.
     fn ask_kept(&mut self) -> Result<Ask, Memory>
-        requires going { IsGoing self.old }
+        requires going { IsTaskGoing self.old }
         requires unwritten { self.old.txn.writes ≡ [] }
         requires reads { self.old.txn.reads ≡ no_reads }
         requires update { asks_only self.old.request.call ≡ false }
@@ -90,7 +90,7 @@ impl State {
     }
 
     fn take_begun(&mut self, version: u64) -> Result<Ask, Memory>
-        requires fits { Fits self.old.waiting (answers.Begun version) }
+        requires fits { FitsTask self.old.waiting (answers.Begun version) }
         requires state { IsState self.old }
         ensures state { OnOk result (IsState self.new) }
         ensures asks { IfOk result
@@ -107,14 +107,14 @@ impl State {
 
     /// The answer comes among the reads.
     fn note(&mut self, answer: &Answer) -> Result<(), Memory>
-        requires fits { Fits self.old.waiting answer.now }
-        requires pending { IsPending self.old.waiting }
+        requires fits { FitsTask self.old.waiting answer.now }
+        requires pending { IsReadPending self.old.waiting }
         requires state { IsState self.old }
-        ensures going { OnOk result (IsGoing self.new) }
+        ensures going { OnOk result (IsTaskGoing self.new) }
         ensures unwritten { OnOk result (self.new.txn.writes ≡ []) }
         ensures known { OnOk result
             (view_of self.new ≡ record (learnt (view_of self.old) answer.now) { waiting = waits.Ended }) }
-        ensures noted { OnOk result (IsNoted self.new.op self.old self.new answer.now) }
+        ensures noted { OnOk result (IsAnswerNoted self.new.op self.old self.new answer.now) }
     {
         let waiting = mem::replace(&mut self.waiting, Waiting::Ended);
         let ask = pending(waiting);
@@ -124,7 +124,7 @@ impl State {
 
     /// An update goes on where its client's kept reply is earlier; else that decides.
     fn take_kept(&mut self, got: Got) -> Result<Ask, Memory>
-        requires going { IsGoing self.old }
+        requires going { IsTaskGoing self.old }
         requires unwritten { self.old.txn.writes ≡ [] }
         requires update { asks_only self.old.request.call ≡ false }
         requires reads { self.old.txn.reads
@@ -152,8 +152,8 @@ impl State {
     }
 
     fn take_read(&mut self, answer: Answer) -> Result<Ask, Memory>
-        requires fits { Fits self.old.waiting answer }
-        requires pending { IsPending self.old.waiting }
+        requires fits { FitsTask self.old.waiting answer }
+        requires pending { IsReadPending self.old.waiting }
         requires state { IsState self.old }
         ensures state { OnOk result (IsState self.new) }
         ensures asks { IfOk result (λ ask. Asks (view_of self.old) answer (view_of self.new) ask) }
@@ -173,7 +173,7 @@ impl State {
     }
 
     fn take_committed(&mut self, version: u64) -> Result<Ask, Memory>
-        requires fits { Fits self.old.waiting (answers.Committed version) }
+        requires fits { FitsTask self.old.waiting (answers.Committed version) }
         requires state { IsState self.old }
         ensures state { OnOk result (IsState self.new) }
         ensures asks { IfOk result
@@ -186,7 +186,7 @@ impl State {
     }
 
     fn take_conflict(&mut self, version: u64, key: Key) -> Result<Ask, Memory>
-        requires fits { Fits self.old.waiting (answers.Conflict version key) }
+        requires fits { FitsTask self.old.waiting (answers.Conflict version key) }
         requires state { IsState self.old }
         ensures state { OnOk result (IsState self.new) }
         ensures asks { IfOk result
@@ -205,7 +205,7 @@ impl State {
     }
 
     fn take_full(&mut self) -> Result<Ask, Memory>
-        requires fits { Fits self.old.waiting answers.StoreFull }
+        requires fits { FitsTask self.old.waiting answers.StoreFull }
         requires state { IsState self.old }
         ensures state { OnOk result (IsState self.new) }
         ensures asks { IfOk result (λ ask. Asks (view_of self.old) answers.StoreFull (view_of self.new) ask) }
@@ -217,7 +217,7 @@ impl State {
 
     /// The next ask of a task that goes on.
     fn take(&mut self, answer: Answer) -> Result<Ask, Memory>
-        requires fits { Fits self.old.waiting answer }
+        requires fits { FitsTask self.old.waiting answer }
         requires state { IsState self.old }
         ensures state { OnOk result (IsState self.new) }
         ensures asks { IfOk result (λ ask. Asks (view_of self.old) answer (view_of self.new) ask) }
@@ -260,8 +260,8 @@ impl State {
     /// The next ask. Once memory ran out the answer is want of memory from then on.
     pub(crate) fn next(&mut self, answer: Answer) -> Result<Ask, Memory>
         requires may { MayTake self.old.waiting answer }
-        requires held { IsHeld self.old }
-        ensures held { IsHeld self.new }
+        requires held { IsFailedOrState self.old }
+        ensures held { IsFailedOrState self.new }
         ensures asks { IfOk result (λ ask. Asks (view_of self.old) answer (view_of self.new) ask) }
         ensures alive { OnOk result (self.old.waiting ≢ waits.Failed) }
         ensures err { OnErr result (self.new.waiting ≡ waits.Failed) }

@@ -21,7 +21,7 @@ pub struct MetaTask {
 impl Model for MetaTask {
     ghost use Rattle.std.specs.Coded.{codes};
     ghost use Rattle.conflict_sets.specs.contracts.sets.WriteSet as write_set;
-    ghost use Rattle.meta_task.specs.State.{view_of, IsHeld};
+    ghost use Rattle.meta_task.specs.State.{view_of, IsFailedOrState};
     ghost use Rattle.meta_task.specs.Task.{TaskView};
 
     ghost Value = { TaskView };
@@ -30,7 +30,7 @@ impl Model for MetaTask {
 
     ghost view = { λ t. view_of t.state };
 
-    ghost invariant = { λ t. IsHeld t.state };
+    ghost invariant = { λ t. IsFailedOrState t.state };
 }
 
 impl MetaTask {

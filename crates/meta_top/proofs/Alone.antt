@@ -29,18 +29,19 @@ use Rattle.client_core.specs.declared.plan.Plan.{Plan}
 use Rattle.client_core.specs.declared.plan.Script.{Script}
 use Rattle.histories.proofs.Versions.{reply_at, tree_next}
 use Rattle.run_record.specs.Legal.{AreReplies, EntryAt, tree_at}
-use Rattle.run_record.specs.Outcomes.{last_version, version_before, IsSeen, IsTold, NamesEntry, Shows}
+use Rattle.run_record.specs.Outcomes.{last_version, version_before, IsSeen, IsToldOutcome, NamesEntry, Shows}
 use Rattle.run_record.specs.Follow.{Follow}
 use Rattle.run_record.specs.Receipts.{AreLater, AreReceipts, HasStopped, IsOf, IsSection, Rises, front_of, fronts_of, outcome_of}
 use Rattle.run_record.specs.Replies.{replies_text}
 use Rattle.run_record.specs.ReplyText.{text_of}
-use Rattle.run_record.specs.Right.{AreSections, IsNoRefusal, IsRight, IsRightEntry}
+use Rattle.run_record.specs.Right.{AreSections, IsNoRefusal, IsRightRecord, IsRightEntry}
 use Rattle.run_record.specs.declared.run.Listed.{Listed}
 use Rattle.run_record.specs.declared.run.Record.{Record}
-use Rattle.world_core.specs.Order.{IsKept, IsOrdered}
+use Rattle.world_core.specs.Order.{IsWorldRecord, IsOrdered}
 use Rattle.world_core.specs.World.{IsOpening, WorldView}
 use Rattle.histories.proofs.Lists.{at_within}
-use Rattle.meta_top.specs.Alone.{commits, listed, receipt_of, receipts_from, receipts_of, version_after}
+use Rattle.meta_top.specs.Alone.{commits, listed_alone, receipt_alone, receipts_from, receipts_of}
+use Rattle.meta_top.specs.Alone.{version_after_reply}
 use Rattle.meta_top.specs.Top.{IsRunOf}
 use Rattle.meta_top.proofs.Marks.{IsNewIn, entry_mark, kept_after, length_free, told_mark}
 use Rattle.run_record.proofs.Replaying.{follows}
@@ -89,16 +90,16 @@ record IsOwn (script : Script) (e : Entry) : Type 0 where
 
 -- the receipt is the plain tree's, and its version the tree's that follows
 record IsNext (C : Settings) (journal : List Entry) (script : Script) (op v : ℕ) (step : Op) (l : Listed) : Type 0 where
-  same : l ≡ listed C v (receipt_of script op v step (apply C (tree_at C journal v) (single_request script op step) 0).1)
+  same : l ≡ listed_alone C v (receipt_alone script op v step (apply C (tree_at C journal v) (single_request script op step) 0).1)
   next : tree_at C journal l.receipt.version ≡ (apply C (tree_at C journal v) (single_request script op step) 0).0
 
 -- a receipt with the right reply, mark and version is the one
 made : (C : Settings) (script : Script) (op v : ℕ) (step : Op) (reply : Reply) (l : Listed) → l.client ≡ 0 → l.fronts ≡ fronts_of C v → l.text ≡ text_of l.receipt.call l.receipt.reply → l.receipt.op ≡ op → IsOf (single_request script op step) l.receipt → l.receipt.gone ≡ []
-    → l.receipt.conflicts ≡ [] → l.receipt.reply ≡ reply → l.receipt.committed ≡ commits (call_of step) reply → l.receipt.version ≡ version_after v (call_of step) reply → l ≡ listed C v (receipt_of script op v step reply)
+    → l.receipt.conflicts ≡ [] → l.receipt.reply ≡ reply → l.receipt.committed ≡ commits (call_of step) reply → l.receipt.version ≡ version_after_reply v (call_of step) reply → l ≡ listed_alone C v (receipt_alone script op v step reply)
 made C script op v step reply l client fronts text ordinal is_of gone conflicts replied mark version =
-    let receipt : l.receipt ≡ receipt_of script op v step reply =
-    same_receipt l.receipt (receipt_of script op v step reply) ordinal is_of.number is_of.server is_of.stamp is_of.call replied mark version conflicts gone in
-    same_listed l (listed C v (receipt_of script op v step reply)) client fronts receipt (text ∙ ap (λ (r : Receipt). text_of r.call r.reply) receipt)
+    let receipt : l.receipt ≡ receipt_alone script op v step reply =
+    same_receipt l.receipt (receipt_alone script op v step reply) ordinal is_of.number is_of.server is_of.stamp is_of.call replied mark version conflicts gone in
+    same_listed l (listed_alone C v (receipt_alone script op v step reply)) client fronts receipt (text ∙ ap (λ (r : Receipt). text_of r.call r.reply) receipt)
 
 module _ (C : Settings) (attempts : ℕ) (script : Script) (journal : List Entry) (some : 1 ≤ attempts) (few : length journal < 200000) (replies : AreReplies C (new_tree C) journal)
     (own : (place : ℕ) (e : Entry) → EntryAt journal place e → IsOwn script e) where
@@ -108,7 +109,7 @@ module _ (C : Settings) (attempts : ℕ) (script : Script) (journal : List Entry
   no_conflict floor (pair ∷ pairs) h = absurd (h.0.other (own h.0.place h.0.entry h.0.at).client)
 
   -- without a conflict no reply is Conflict
-  told_of : (q : Request) (front : ℕ) (o : Outcome) → o.conflicts ≡ [] → (reply : Reply) → Shows C journal q front o reply → IsTold C journal q front o
+  told_of : (q : Request) (front : ℕ) (o : Outcome) → o.conflicts ≡ [] → (reply : Reply) → Shows C journal q front o reply → IsToldOutcome C journal q front o
   told_of q front o none (Refused codes.Conflict) h =
       let from : version_before front o.conflicts ≤ o.version = h.from in
       let before : o.version < last_version front o.conflicts = h.before in
@@ -163,7 +164,7 @@ module _ (C : Settings) (attempts : ℕ) (script : Script) (journal : List Entry
     seen_told is =
         let seen : IsSeen C journal (served h.0).request (front_of l.fronts) (outcome_of l.receipt) = of_seen C attempts journal script.id l (served h.0) is in
         let version : l.receipt.version ≡ v = version_seen C attempts journal script.id v l rest h rises named is in
-        let shown : IsTold C journal (served h.0).request (front_of l.fronts) (outcome_of l.receipt) = told_of (served h.0).request (front_of l.fronts) (outcome_of l.receipt) none l.receipt.reply seen.shown in
+        let shown : IsToldOutcome C journal (served h.0).request (front_of l.fronts) (outcome_of l.receipt) = told_of (served h.0).request (front_of l.fronts) (outcome_of l.receipt) none l.receipt.reply seen.shown in
         let now : apply C (tree_at C journal v) (served h.0).request 0 ≡ (tree_at C journal v, l.receipt.reply) = subst (λ n. apply C (tree_at C journal n) (served h.0).request 0 ≡ (tree_at C journal n, l.receipt.reply)) version (shown.told 0) in
         subst (λ (r : Request). apply C (tree_at C journal v) r 0 ≡ (tree_at C journal v, l.receipt.reply)) request_is now
 
@@ -200,11 +201,11 @@ module _ (C : Settings) (attempts : ℕ) (script : Script) (journal : List Entry
   along op v (step ∷ steps) (l ∷ rest) follow h rises named kept =
       let new : IsNewIn (tree_at C journal v) (single_request script op step) = below (get (tree_at C journal v).kept script.id.0) op kept in
       let one : IsNext C journal script op v step l = one_next op v step steps l rest follow h rises named new in
-      let version : l.receipt.version ≡ version_after v (call_of step) (apply C (tree_at C journal v) (single_request script op step) 0).1 = ap (λ (x : Listed). x.receipt.version) one.same in
+      let version : l.receipt.version ≡ version_after_reply v (call_of step) (apply C (tree_at C journal v) (single_request script op step) 0).1 = ap (λ (x : Listed). x.receipt.version) one.same in
       let others : rest ≡ receipts_from C script (tree_at C journal l.receipt.version) (op + 1) l.receipt.version steps =
       along (op + 1) l.receipt.version steps rest follow.4 h.1 (rises_rest v l rest rises) (named_rest C attempts journal script.id v l rest h rises named) (kept_next op v step steps l rest follow h rises named new) in
       ap (λ (x : Listed). x ∷ rest) one.same
-      ∙ ap (λ (xs : List Listed). listed C v (receipt_of script op v step (apply C (tree_at C journal v) (single_request script op step) 0).1) ∷ xs)
+      ∙ ap (λ (xs : List Listed). listed_alone C v (receipt_alone script op v step (apply C (tree_at C journal v) (single_request script op step) 0).1) ∷ xs)
       (others
       ∙ (ap (λ (T : Tree). receipts_from C script T (op + 1) l.receipt.version steps) one.next
       ∙ ap (λ n. receipts_from C script (apply C (tree_at C journal v) (single_request script op step) 0).0 (op + 1) n steps) version))
@@ -233,7 +234,7 @@ of_section C attempts script journal own some short replies entries section name
       accepted = (entries place e at).accepted;
     }
 
-pub alone : (plan : Plan) (run : Record) (script : Script) → 1 ≤ plan.attempts → length script.ops ≤ 4000 → plan.clients ≡ script ∷ [] → IsRight plan run → run.receipts ≡ receipts_of plan.config script
+pub alone : (plan : Plan) (run : Record) (script : Script) → 1 ≤ plan.attempts → length script.ops ≤ 4000 → plan.clients ≡ script ∷ [] → IsRightRecord plan run → run.receipts ≡ receipts_of plan.config script
 alone plan run script some short one right =
     let sections : AreSections plan.config plan.attempts run.entries 0 (script ∷ []) run.receipts = subst (λ (scripts : List Script). AreSections plan.config plan.attempts run.entries 0 scripts run.receipts) (scripts_are plan ∙ one) right.sections in
     let whole : run.receipts ≡ sections.0 = sections.2 ∙ (ap (λ (xs : List Listed). sections.0 ++ xs) sections.4 ∙ append-nil sections.0) in
@@ -241,7 +242,7 @@ alone plan run script some short one right =
     whole ∙ of_section plan.config plan.attempts script run.entries sections.0 some short right.legal.replies right.entries sections.3 named
 
 -- the text of a record that is right for the plan
-pub run_of : (plan : Plan) (run : Record) (text : List ℕ) (first : WorldView) → IsPlan plan → IsRight plan run → IsOpening plan first → ((last : WorldView) × IsOrdered first last × IsKept last run) → text ≡ replies_text run → IsRunOf plan text
+pub run_of : (plan : Plan) (run : Record) (text : List ℕ) (first : WorldView) → IsPlan plan → IsRightRecord plan run → IsOpening plan first → ((last : WorldView) × IsOrdered first last × IsWorldRecord last run) → text ≡ replies_text run → IsRunOf plan text
 run_of plan run text first is right opening ordered written = record { run = run; right = right; first = first; last = ordered.0; opening = opening; order = ordered.1; kept = ordered.2; alone = single; written = written }
   where
     single : (script : Script) → plan.clients ≡ script ∷ [] → run.receipts ≡ receipts_of plan.config script

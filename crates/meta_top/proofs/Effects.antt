@@ -18,7 +18,7 @@ use Rattle.tree_model.specs.Calls.{effect_of, is_query}
 use Rattle.path_walk.specs.Requests.{is_built}
 use Rattle.tree_model.specs.Effects.{Effect, Leaves, Makes, Settles, refuses, on_path}
 use Rattle.tree_model.specs.Tree.{Tree, next_at}
-use Rattle.tree_model.specs.Creating.{make, make_at, add_child, add_in, unless_there, is_layout, new_dir, new_file, new_link}
+use Rattle.tree_model.specs.Creating.{make, make_at, add_child, add_in, unless_there, admits_given, new_dir, new_file, new_link}
 use Rattle.tree_model.specs.Finding.{if_there, on_node}
 use Rattle.tree_model.specs.Walk.{resolve}
 use Rattle.tree_model.specs.declared.new_node.NewNode.{NewNode}
@@ -78,7 +78,7 @@ module _ (C : Settings) (T : Tree) (server stamp : ℕ) (node : NewNode) where
   made (AtParent dir name) = free dir name (get T.entries (dir, name))
 
   makes : (place : Place) → Refusing (make C T server stamp node place)
-  makes place = by_words Refusing (path_of place.text) _ (λ code. refl) (λ path. by_choice Refusing (is_layout C node.layout) _ _ (made (resolve T place.base path Parent)) refl)
+  makes place = by_words Refusing (path_of place.text) _ (λ code. refl) (λ path. by_choice Refusing (admits_given C node.layout) _ _ (made (resolve T place.base path Parent)) refl)
 
 unbuilt : {P : Type 0} → false ≡ true → P
 unbuilt e = absurd (cc)

@@ -24,12 +24,12 @@ abbrev pub commits : Call → Reply → Bool
 commits call reply = if is_refusal reply then false else not (is_query call)
 
 -- a commit makes the next version
-abbrev pub version_after : ℕ → Call → Reply → ℕ
-version_after version call reply = if commits call reply then version + 1 else version
+abbrev pub version_after_reply : ℕ → Call → Reply → ℕ
+version_after_reply version call reply = if commits call reply then version + 1 else version
 
 -- of an operation that had this reply over the tree at this version: no conflict, and no server that stopped
-abbrev pub receipt_of : Script → ℕ → ℕ → Op → Reply → Receipt
-receipt_of script op version step reply =
+abbrev pub receipt_alone : Script → ℕ → ℕ → Op → Reply → Receipt
+receipt_alone script op version step reply =
     record {
       op = op;
       number = Some (op + 1);
@@ -38,14 +38,14 @@ receipt_of script op version step reply =
       call = call_of step;
       reply = reply;
       committed = commits (call_of step) reply;
-      version = version_after version (call_of step) reply;
+      version = version_after_reply version (call_of step) reply;
       conflicts = [];
       gone = [];
     }
 
 -- what the one client, 0, keeps; it has seen all versions so far
-abbrev pub listed : Settings → ℕ → Receipt → Listed
-listed C version receipt =
+abbrev pub listed_alone : Settings → ℕ → Receipt → Listed
+listed_alone C version receipt =
     record {
       client = 0;
       fronts = fronts_of C version;
@@ -59,8 +59,8 @@ unfoldable pub receipts_from : Settings → Script → Tree → ℕ → ℕ → 
 receipts_from C script T op version [] = []
 receipts_from C script T op version (step ∷ steps) =
     let answered = apply C T (single_request script op step) 0 in
-    listed C version (receipt_of script op version step answered.1)
-    ∷ receipts_from C script answered.0 (op + 1) (version_after version (call_of step) answered.1) steps
+    listed_alone C version (receipt_alone script op version step answered.1)
+    ∷ receipts_from C script answered.0 (op + 1) (version_after_reply version (call_of step) answered.1) steps
 
 abbrev pub receipts_of : Settings → Script → List Listed
 receipts_of C script = receipts_from C script (new_tree C) 0 0 script.ops

@@ -9,10 +9,10 @@ use Rattle.fs_base.specs.declared.limits.TheConstants.{SCENARIO_BYTES}
 use Rattle.client_core.specs.declared.plan.Plan.{Plan}
 use Rattle.client_core.specs.declared.plan.Script.{Script}
 use Rattle.run_record.specs.Replies.{replies_text}
-use Rattle.run_record.specs.Right.{IsRight}
+use Rattle.run_record.specs.Right.{IsRightRecord}
 use Rattle.run_record.specs.Words.{line, setting}
 use Rattle.run_record.specs.declared.run.Record.{Record}
-use Rattle.world_core.specs.Order.{IsKept, IsOrdered}
+use Rattle.world_core.specs.Order.{IsWorldRecord, IsOrdered}
 use Rattle.world_core.specs.World.{IsOpening, WorldView}
 use Rattle.scenario.specs.declared.broken.Broken.{Broken}
 use Rattle.scenario.specs.Scenario.{scenario_of}
@@ -38,13 +38,13 @@ bad_line broken =
 -- the text is that of a record which is right for the plan
 pub record IsRunOf (plan : Plan) (text : List ℕ) : Type 0 where
   pub run : Record
-  pub right : IsRight plan run
+  pub right : IsRightRecord plan run
   -- turn by turn in the order of the schedule and then in rounds, from a world in which nothing has happened
   pub first : WorldView
   pub last : WorldView
   pub opening : IsOpening plan first
   pub order : IsOrdered first last
-  pub kept : IsKept last run
+  pub kept : IsWorldRecord last run
   -- with a single client nothing is left open: its calls are answered one after another,
   -- each as the plain tree that the calls before it led to answers it, and no call meets a conflict
   pub alone : (script : Script) → plan.clients ≡ script ∷ [] → run.receipts ≡ receipts_of plan.config script
@@ -53,7 +53,7 @@ pub record IsRunOf (plan : Plan) (text : List ℕ) : Type 0 where
 -- ---- texts that are due
 
 -- the input was read to its end, it spells a plan, and the text is that of its run
-pub record IsRun (old new : Option (List ℕ)) (text : List ℕ) : Type 0 where
+pub record IsInputRun (old new : Option (List ℕ)) (text : List ℕ) : Type 0 where
   pub bytes : List ℕ
   pub whole : ReadsToEnd old new bytes SCENARIO_BYTES
   pub plan : Plan
@@ -61,7 +61,7 @@ pub record IsRun (old new : Option (List ℕ)) (text : List ℕ) : Type 0 where
   pub runs : IsRunOf plan text
 
 -- what came of the input, all of it or too much, breaks a rule, and the text names the first one
-pub record IsBad (old new : Option (List ℕ)) (text : List ℕ) : Type 0 where
+pub record IsInputBad (old new : Option (List ℕ)) (text : List ℕ) : Type 0 where
   pub bytes : List ℕ
   pub came : Consumes old new bytes
   pub whole : IsAtEnd new ⊎ (SCENARIO_BYTES < length bytes)
@@ -70,11 +70,11 @@ pub record IsBad (old new : Option (List ℕ)) (text : List ℕ) : Type 0 where
   pub written : text ≡ bad_line broken
 
 -- the text that goes with a status
-abbrev pub IsDue : List (String Global) → Option (List ℕ) → Option (List ℕ) → Status → List ℕ → Type 0
-IsDue words old new status.Ok text = IsTrue (is_step words) × IsRun old new text
-IsDue words old new status.Usage text = (is_step words ≡ false) × (text ≡ usage_line)
-IsDue words old new status.Bad text = IsTrue (is_step words) × IsBad old new text
-IsDue words old new _ text = ⊥
+abbrev pub IsTextOf : List (String Global) → Option (List ℕ) → Option (List ℕ) → Status → List ℕ → Type 0
+IsTextOf words old new status.Ok text = IsTrue (is_step words) × IsInputRun old new text
+IsTextOf words old new status.Usage text = (is_step words ≡ false) × (text ≡ usage_line)
+IsTextOf words old new status.Bad text = IsTrue (is_step words) × IsInputBad old new text
+IsTextOf words old new _ text = ⊥
 
 -- ---- what is written
 
@@ -82,14 +82,14 @@ IsDue words old new _ text = ⊥
 pub record WritesRun (words : List (String Global)) (old new before after : Option (List ℕ)) : Type 0 where
   pub step : IsTrue (is_step words)
   pub text : List ℕ
-  pub run : IsRun old new text
+  pub run : IsInputRun old new text
   pub written : Appends before after text
 
 -- the rule that the input breaks, whole
 pub record WritesRule (words : List (String Global)) (old new before after : Option (List ℕ)) : Type 0 where
   pub step : IsTrue (is_step words)
   pub text : List ℕ
-  pub bad : IsBad old new text
+  pub bad : IsInputBad old new text
   pub written : Appends before after text
 
 -- the usage line, whole
@@ -101,16 +101,16 @@ pub record WritesUsage (words : List (String Global)) (before after : Option (Li
 pub record WritesFront (words : List (String Global)) (old new before after : Option (List ℕ)) : Type 0 where
   pub status : Status
   pub text : List ℕ
-  pub is_due : IsDue words old new status text
+  pub is_due : IsTextOf words old new status text
   pub count : ℕ
   pub short : count < length text
   pub written : Appends before after (take count text)
 
 -- the source failed, or memory ran out
-abbrev pub IsSilent : Status → Type 0
-IsSilent status.ReadFault = Unit {0}
-IsSilent status.Memory = Unit {0}
-IsSilent _ = ⊥
+abbrev pub IsSilentStatus : Status → Type 0
+IsSilentStatus status.ReadFault = Unit {0}
+IsSilentStatus status.Memory = Unit {0}
+IsSilentStatus _ = ⊥
 
 -- ---- faults of the outside
 

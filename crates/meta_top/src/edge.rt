@@ -5,7 +5,7 @@ ghost use Rattle.std.specs.Io.KnownBytes.{Keeps};
 ghost use Rattle.std.specs.Process.{exit_status};
 ghost use Rattle.std.specs.Vec.Iter.{into_iter_items};
 ghost use Rattle.meta_top.specs.Command.{exit_number, words_of, LacksMemory};
-ghost use Rattle.meta_top.specs.Top.{is_step, IsSilent, TellsReadFault, TellsWriteFault, WritesFront, WritesRule, WritesRun, WritesUsage};
+ghost use Rattle.meta_top.specs.Top.{is_step, IsSilentStatus, TellsReadFault, TellsWriteFault, WritesFront, WritesRule, WritesRun, WritesUsage};
 
 use crate::top::{Status, plain_main};
 use fs_base::Memory;
@@ -35,7 +35,7 @@ pub fn command<I: Source, O: Sink>(
     ensures front { result ≡ Status.WriteFault
         → WritesFront (words_of came) (I.left input.old) (I.left input.new)
         (O.written output.old) (O.written output.new) }
-    ensures silent { IsSilent result → Keeps (O.written output.old) (O.written output.new) }
+    ensures silent { IsSilentStatus result → Keeps (O.written output.old) (O.written output.new) }
     ensures no_audit { result ≢ Status.AuditNo }
     ensures untouched { is_step (words_of came) ≡ false → input.new ≡ input.old }
     ensures read_words { result ≡ Status.ReadFault → IsTrue (is_step (words_of came)) }

@@ -2,7 +2,7 @@ ghost use Rattle.std.specs.Prelude.{◌≡◌, ◌≢◌, ◌∷◌, [], false, 
 ghost use Rattle.std.specs.Io.KnownBytes.{Keeps};
 ghost use Rattle.fs_io.specs.Reading.{TellsFault};
 ghost use Rattle.client_core.specs.Plans.{IsPlan};
-ghost use Rattle.meta_top.specs.Top.{is_step, usage_line, bad_line, IsRunOf, IsDue, IsSilent, CallsFor, TellsReadFault, TellsWriteFault, WritesFront, WritesRule, WritesRun, WritesUsage};
+ghost use Rattle.meta_top.specs.Top.{is_step, usage_line, bad_line, IsRunOf, IsTextOf, IsSilentStatus, CallsFor, TellsReadFault, TellsWriteFault, WritesFront, WritesRule, WritesRun, WritesUsage};
 
 use client_core::Plan;
 use fs_base::Memory;
@@ -61,7 +61,7 @@ pub fn plain_main<I: Source, O: Sink>(
         (O.written output.old) (O.written output.new) }
 
     // Where the source failed or memory ran out, nothing is. No run ends with an audit's answer.
-    ensures silent { IsSilent result → Keeps (O.written output.old) (O.written output.new) }
+    ensures silent { IsSilentStatus result → Keeps (O.written output.old) (O.written output.new) }
     ensures no_audit { result ≢ Status.AuditNo }
 
     // Words are looked at before anything is read.
@@ -90,7 +90,7 @@ fn due_answer<I: Source>(
     input: &mut I,
 ) -> Result<Answer, ReadAllError>
     ensures due { IfOk result
-        (λ a. IsDue words.now (I.left input.old) (I.left input.new) a.status a.text.items) }
+        (λ a. IsTextOf words.now (I.left input.old) (I.left input.new) a.status a.text.items) }
     ensures untouched { is_step words.now ≡ false → input.new ≡ input.old }
     ensures words { result ≡ Err ReadAllError.ReadFault → IsTrue (is_step words.now) }
     ensures fault { TellsFault (I.faults input.old) (I.faults input.new) result }

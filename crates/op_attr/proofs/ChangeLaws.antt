@@ -39,7 +39,7 @@ use Rattle.path_walk.proofs.PutLaws.{puts_done}
 use Rattle.op_attr.specs.declared.task.AttrCall.TheVariants as attr
 use Rattle.op_attr.specs.Changing.{changed_row, PutsChanged}
 use Rattle.op_attr.specs.Attr.{MaySet}
-use Rattle.op_attr.specs.Ending.{IsEndStep}
+use Rattle.op_attr.specs.Ending.{IsAttrEndStep}
 use Rattle.row_records.proofs.InRange.{done_fits}
 use Rattle.op_attr.proofs.ReadLaws.{StandsAt, node_at}
 use Rattle.std.proofs.lemmas.Bool.{and_parts}
@@ -154,7 +154,7 @@ module _ (t u : Transaction) (id : ℕ) (kind : Kind) (stamp : ℕ) (given : Cha
       puts_done C (λ T. inode_at (At id kind)) (λ T. setattr_at T stamp given (At id kind)) t u Done asked puts (λ S good agrees. (read, tt)) are after done_fits empty makes
 
   -- whichever way it was put, the call is done
-  pub setattr_done : PutsChanged id row (changed_row given stamp row) t u → IsEndStep (attr.Setattr stamp given) (At id kind) t u (steps.Commit Done asked)
+  pub setattr_done : PutsChanged id row (changed_row given stamp row) t u → IsAttrEndStep (attr.Setattr stamp given) (At id kind) t u (steps.Commit Done asked)
   unfolding spelled_value
   setattr_done (inl kept) C = commits [] C tt (kept.1 ∙ ap (λ ws. record t { writes = ws }) none) (makes_none id kind stamp given may small t.reads row is C kept.0)
   setattr_done (inr put) C =

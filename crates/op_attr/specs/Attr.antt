@@ -9,7 +9,7 @@ use Rattle.tree_model.specs.Effects.{Effect, Leaves}
 use Rattle.tree_model.specs.Finding.{found_of, stat_at, list_at, readlink_at, setattr_at}
 use Rattle.tree_model.specs.Tree.{Tree}
 use Rattle.path_walk.specs.Areas.{Area}
-use Rattle.path_walk.specs.Footprint.{nothing_at, inode_at, link_at, entries_at}
+use Rattle.path_walk.specs.Footprint.{nothing_at, inode_at, link_row_at, entries_at}
 use Rattle.path_walk.specs.Stages.{does, looks, trip_at}
 use Rattle.op_attr.specs.declared.task.AttrCall.{AttrCall}
 use Rattle.op_attr.specs.declared.task.AttrCall.TheVariants as attr
@@ -37,19 +37,19 @@ abbrev pub read_at : AttrCall → Walked → List Area
 read_at attr.Lookup = nothing_at
 read_at attr.Stat = inode_at
 read_at attr.List = entries_at
-read_at attr.Readlink = link_at
+read_at attr.Readlink = link_row_at
 read_at (attr.Setattr stamp given) = inode_at
 
-abbrev pub effect_of : AttrTask → Tree → Effect
-effect_of task = does (at_end_of task.call) (trip_at task.stage)
+abbrev pub attr_effect : AttrTask → Tree → Effect
+attr_effect task = does (at_end_of task.call) (trip_at task.stage)
 
-abbrev pub areas_of : AttrTask → Tree → List Area
-areas_of task = looks (λ T. read_at task.call) (trip_at task.stage)
+abbrev pub attr_areas : AttrTask → Tree → List Area
+attr_areas task = looks (λ T. read_at task.call) (trip_at task.stage)
 
 -- the numbers that setattr sets are in their ranges: a time, and those of a call's changes
 abbrev pub MaySet : AttrCall → Type 0
 MaySet (attr.Setattr stamp given) = IsTrue (time.fits stamp) × IsTrue (changes.fits given)
 MaySet _ = Unit {0}
 
-abbrev pub IsReady : AttrTask → Type 0
-IsReady task = MaySet task.call
+abbrev pub IsAttrReady : AttrTask → Type 0
+IsAttrReady task = MaySet task.call

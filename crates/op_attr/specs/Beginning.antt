@@ -9,16 +9,16 @@ use Rattle.op_attr.specs.declared.task.AttrCall.{AttrCall}
 use Rattle.op_attr.specs.declared.task.AttrCall.TheVariants as attr
 
 -- a link as the last name is what lookup and readlink ask about
-abbrev pub end_of : AttrCall → WalkEnd
-end_of attr.Lookup = NoFollow
-end_of attr.Readlink = NoFollow
-end_of _ = Follow
+abbrev pub attr_end : AttrCall → WalkEnd
+attr_end attr.Lookup = NoFollow
+attr_end attr.Readlink = NoFollow
+attr_end _ = Follow
 
 -- the call of a request with this stamp, and its place
-abbrev pub IsCallAt : ℕ → Call → AttrCall → Place → Type 0
-IsCallAt stamp (calls.Lookup at) call place = (place ≡ at) × (call ≡ attr.Lookup)
-IsCallAt stamp (calls.Stat at) call place = (place ≡ at) × (call ≡ attr.Stat)
-IsCallAt stamp (calls.List at) call place = (place ≡ at) × (call ≡ attr.List)
-IsCallAt stamp (calls.Readlink at) call place = (place ≡ at) × (call ≡ attr.Readlink)
-IsCallAt stamp (calls.Setattr at given) call place = (place ≡ at) × (call ≡ attr.Setattr stamp given)
-IsCallAt stamp _ call place = ⊥
+abbrev pub IsAttrCallAt : ℕ → Call → AttrCall → Place → Type 0
+IsAttrCallAt stamp (calls.Lookup at) call place = (place ≡ at) × (call ≡ attr.Lookup)
+IsAttrCallAt stamp (calls.Stat at) call place = (place ≡ at) × (call ≡ attr.Stat)
+IsAttrCallAt stamp (calls.List at) call place = (place ≡ at) × (call ≡ attr.List)
+IsAttrCallAt stamp (calls.Readlink at) call place = (place ≡ at) × (call ≡ attr.Readlink)
+IsAttrCallAt stamp (calls.Setattr at given) call place = (place ≡ at) × (call ≡ attr.Setattr stamp given)
+IsAttrCallAt stamp _ call place = ⊥

@@ -8,6 +8,6 @@ use Rattle.op_attr.specs.declared.task.AttrCall.{AttrCall}
 use Rattle.op_attr.specs.Attr.{at_end_of, read_at}
 
 -- under whatever configuration it reads what the call reads there, and does what the call does there
-abbrev pub IsEndStep : AttrCall → Walked → Transaction → Transaction → OpStep → Type 0
-IsEndStep call walked before after s =
+abbrev pub IsAttrEndStep : AttrCall → Walked → Transaction → Transaction → OpStep → Type 0
+IsAttrEndStep call walked before after s =
     (C : Settings) → HasDone C (λ T. read_at call walked) (λ T. at_end_of call T walked) before after s

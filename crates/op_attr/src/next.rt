@@ -8,8 +8,8 @@ ghost use Rattle.tree_model.specs.Effects.{Leaves};
 ghost use Rattle.tree_model.specs.Finding.{target_of};
 ghost use Rattle.path_walk.specs.Owed.{HasStepped};
 ghost use Rattle.op_attr.specs.declared.task.AttrCall.TheVariants as attr;
-ghost use Rattle.op_attr.specs.Attr.{IsReady, MaySet, areas_of, effect_of};
-ghost use Rattle.op_attr.specs.Ending.{IsEndStep};
+ghost use Rattle.op_attr.specs.Attr.{IsAttrReady, MaySet, attr_areas, attr_effect};
+ghost use Rattle.op_attr.specs.Ending.{IsAttrEndStep};
 
 use crate::setattr::setattr;
 use crate::task::{AttrCall, AttrTask};
@@ -57,7 +57,7 @@ fn attributes(id: InodeId, row: &InodeRow) -> Attributes
 
 fn stat(alloc: Global, txn: &Txn, id: InodeId) -> Result<OpStep, Memory>
     requires { txn.now.writes ≡ [] }
-    ensures { IfOk result (λ s. (kind : Kind) → IsEndStep attr.Stat (At id kind) txn.now txn.now s) }
+    ensures { IfOk result (λ s. (kind : Kind) → IsAttrEndStep attr.Stat (At id kind) txn.now txn.now s) }
 {
     match want_inode(alloc, txn, id)? {
         Want::Ask(key) => Ok(OpStep::Ask(Ask::Get(key))),
@@ -69,7 +69,7 @@ fn stat(alloc: Global, txn: &Txn, id: InodeId) -> Result<OpStep, Memory>
 /// The entries of a directory whose pages were read, or the next page.
 fn list(alloc: Global, txn: &Txn, dir: InodeId) -> Result<OpStep, Memory>
     requires { txn.now.writes ≡ [] }
-    ensures { IfOk result (IsEndStep attr.List (At dir kinds.Dir) txn.now txn.now) }
+    ensures { IfOk result (IsAttrEndStep attr.List (At dir kinds.Dir) txn.now txn.now) }
 {
     match want_list(alloc, txn, dir)? {
         WantList::Ask(ask) => Ok(OpStep::Ask(ask)),
@@ -79,7 +79,7 @@ fn list(alloc: Global, txn: &Txn, dir: InodeId) -> Result<OpStep, Memory>
 
 fn list_at(alloc: Global, txn: &Txn, id: InodeId, kind: Kind) -> Result<OpStep, Memory>
     requires { txn.now.writes ≡ [] }
-    ensures { IfOk result (IsEndStep attr.List (At id kind) txn.now txn.now) }
+    ensures { IfOk result (IsAttrEndStep attr.List (At id kind) txn.now txn.now) }
 {
     match kind {
         Kind::Dir => list(alloc, txn, id),
@@ -100,7 +100,7 @@ fn target_of(part: InodePart) -> Reply
 
 fn target(alloc: Global, txn: &Txn, id: InodeId) -> Result<OpStep, Memory>
     requires { txn.now.writes ≡ [] }
-    ensures { IfOk result (IsEndStep attr.Readlink (At id kinds.Link) txn.now txn.now) }
+    ensures { IfOk result (IsAttrEndStep attr.Readlink (At id kinds.Link) txn.now txn.now) }
 {
     match want_inode(alloc, txn, id)? {
         Want::Ask(key) => Ok(OpStep::Ask(Ask::Get(key))),
@@ -112,7 +112,7 @@ fn target(alloc: Global, txn: &Txn, id: InodeId) -> Result<OpStep, Memory>
 /// The entry tells whether it is a link, so no other inode is asked for.
 fn readlink(alloc: Global, txn: &Txn, id: InodeId, kind: Kind) -> Result<OpStep, Memory>
     requires { txn.now.writes ≡ [] }
-    ensures { IfOk result (IsEndStep attr.Readlink (At id kind) txn.now txn.now) }
+    ensures { IfOk result (IsAttrEndStep attr.Readlink (At id kind) txn.now txn.now) }
 {
     match kind {
         Kind::Dir => Ok(OpStep::Reply(Reply::Refused(Code::NotLink))),
@@ -131,7 +131,7 @@ fn at_node(
 ) -> Result<OpStep, Memory>
     requires ready { MaySet call }
     requires writes { txn.old.writes ≡ [] }
-    ensures { IfOk result (IsEndStep call (At id kind) txn.old txn.new) }
+    ensures { IfOk result (IsAttrEndStep call (At id kind) txn.old txn.new) }
 {
     match call {
         AttrCall::Lookup => Ok(OpStep::Reply(Reply::Found(id, kind))),
@@ -149,7 +149,7 @@ fn at_node(
 fn at_end(call: AttrCall, alloc: Global, txn: &mut Txn, walked: &Walked) -> Result<OpStep, Memory>
     requires ready { MaySet call }
     requires writes { txn.old.writes ≡ [] }
-    ensures { IfOk result (IsEndStep call walked.now txn.old txn.new) }
+    ensures { IfOk result (IsAttrEndStep call walked.now txn.old txn.new) }
 {
     match walked {
         Walked::At(id, kind) => at_node(call, alloc, txn, *id, *kind),
@@ -164,13 +164,13 @@ impl AttrTask {
     ///
     /// Once memory ran out the answer is want of memory from then on.
     pub fn next(&mut self, alloc: Global, answer: Answer, txn: &mut Txn) -> Result<OpStep, Memory>
-        requires ready { IsReady self.old }
+        requires ready { IsAttrReady self.old }
         requires writes { txn.old.writes ≡ [] }
         ensures config { OnOk result (self.new.config ≡ self.old.config) }
-        ensures ready { OnOk result (IsReady self.new) }
+        ensures ready { OnOk result (IsAttrReady self.new) }
         ensures step { IfOk result
-            (HasStepped self.old.config (areas_of self.old) (areas_of self.new) (effect_of self.old)
-            (effect_of self.new) txn.old txn.new) }
+            (HasStepped self.old.config (attr_areas self.old) (attr_areas self.new) (attr_effect self.old)
+            (attr_effect self.new) txn.old txn.new) }
         ensures alive { OnOk result ((self.old.failed ≡ false) × (self.new.failed ≡ false)) }
         ensures err { OnErr result (self.new.failed ≡ true) }
     {
@@ -185,13 +185,13 @@ impl AttrTask {
 
     /// The walk, and what the call does where it ends.
     fn go_on(&mut self, alloc: Global, txn: &mut Txn) -> Result<OpStep, Memory>
-        requires ready { IsReady self.old }
+        requires ready { IsAttrReady self.old }
         requires writes { txn.old.writes ≡ [] }
         ensures config { OnOk result (self.new.config ≡ self.old.config) }
-        ensures ready { OnOk result (IsReady self.new) }
+        ensures ready { OnOk result (IsAttrReady self.new) }
         ensures step { IfOk result
-            (HasStepped self.old.config (areas_of self.old) (areas_of self.new) (effect_of self.old)
-            (effect_of self.new) txn.old txn.new) }
+            (HasStepped self.old.config (attr_areas self.old) (attr_areas self.new) (attr_effect self.old)
+            (attr_effect self.new) txn.old txn.new) }
     {
         match self.stage.next(alloc, txn)? {
             Reached::Ask(ask) => Ok(OpStep::Ask(ask)),

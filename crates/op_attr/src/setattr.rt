@@ -4,7 +4,7 @@ ghost use Rattle.tree_model.specs.declared.walk.Walked.TheVariants.{At};
 ghost use Rattle.op_attr.specs.declared.task.AttrCall.TheVariants as attr;
 ghost use Rattle.op_attr.specs.Attr.{MaySet};
 ghost use Rattle.op_attr.specs.Changing.{changed_row, PutsChanged};
-ghost use Rattle.op_attr.specs.Ending.{IsEndStep};
+ghost use Rattle.op_attr.specs.Ending.{IsAttrEndStep};
 
 use fs_base::limits::INODE_IDS;
 use fs_base::{Changes, Code, InodeId, Items, Memory, Reply};
@@ -74,7 +74,7 @@ pub(crate) fn setattr(
     requires ready { MaySet (attr.Setattr stamp changes) }
     requires writes { txn.old.writes ≡ [] }
     ensures { IfOk result
-        (λ s. (kind : Kind) → IsEndStep (attr.Setattr stamp changes) (At id kind) txn.old txn.new s) }
+        (λ s. (kind : Kind) → IsAttrEndStep (attr.Setattr stamp changes) (At id kind) txn.old txn.new s) }
 {
     let row = match want_inode(alloc, txn, id)? {
         Want::Ask(key) => return Ok(OpStep::Ask(Ask::Get(key))),

@@ -3,8 +3,8 @@ ghost use Rattle.tree_model.specs.Calls.{effect};
 ghost use Rattle.tree_model.specs.Tree.{Tree};
 ghost use Rattle.path_walk.specs.Footprint.{call_areas};
 ghost use Rattle.path_walk.specs.Requests.{IsRequest};
-ghost use Rattle.op_attr.specs.Attr.{IsAttrCall, IsReady, areas_of, effect_of};
-ghost use Rattle.op_attr.specs.Beginning.{IsCallAt, end_of};
+ghost use Rattle.op_attr.specs.Attr.{IsAttrCall, IsAttrReady, attr_areas, attr_effect};
+ghost use Rattle.op_attr.specs.Beginning.{IsAttrCallAt, attr_end};
 
 use fs_base::{Call, Changes, Config, Memory, Place, Request};
 use path_walk::Stage;
@@ -34,7 +34,7 @@ pub struct AttrTask {
 
 /// Where the walk of a call's place ends.
 fn end_of(call: AttrCall) -> WalkEnd
-    ensures { result ≡ end_of call }
+    ensures { result ≡ attr_end call }
 {
     match call {
         AttrCall::Lookup => WalkEnd::NoFollow,
@@ -52,11 +52,11 @@ impl AttrTask {
         requires valid { IsRequest config.now request.now }
         requires call { IsAttrCall request.now.call }
         ensures config { IfOk result (λ task. task.config ≡ config.now) }
-        ensures effect { IfOk result (λ task. (T : Tree) → effect_of task T ≡ effect config.now T request.now) }
+        ensures effect { IfOk result (λ task. (T : Tree) → attr_effect task T ≡ effect config.now T request.now) }
         ensures areas { IfOk result
             (λ task. (T : Tree)
-            → areas_of task T ≡ call_areas config.now T request.now request.now.call) }
-        ensures ready { IfOk result IsReady }
+            → attr_areas task T ≡ call_areas config.now T request.now request.now.call) }
+        ensures ready { IfOk result IsAttrReady }
     {
         match &request.call {
             Call::Lookup(place) => AttrTask::start(alloc, request, config, place, AttrCall::Lookup),
@@ -85,13 +85,13 @@ impl AttrTask {
         call: AttrCall,
     ) -> Result<AttrTask, Memory>
         requires valid { IsRequest config.now request.now }
-        requires call { IsCallAt request.now.stamp request.now.call call place.now }
+        requires call { IsAttrCallAt request.now.stamp request.now.call call place.now }
         ensures config { IfOk result (λ task. task.config ≡ config.now) }
-        ensures effect { IfOk result (λ task. (T : Tree) → effect_of task T ≡ effect config.now T request.now) }
+        ensures effect { IfOk result (λ task. (T : Tree) → attr_effect task T ≡ effect config.now T request.now) }
         ensures areas { IfOk result
             (λ task. (T : Tree)
-            → areas_of task T ≡ call_areas config.now T request.now request.now.call) }
-        ensures ready { IfOk result IsReady }
+            → attr_areas task T ≡ call_areas config.now T request.now request.now.call) }
+        ensures ready { IfOk result IsAttrReady }
     {
         let stage = Stage::new(alloc, place, end_of(call), None)?;
         Ok(AttrTask {

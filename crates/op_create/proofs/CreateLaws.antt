@@ -32,7 +32,7 @@ use Rattle.tree_model.specs.declared.new_node.NewPart.{NewPart}
 use Rattle.tree_model.specs.declared.new_node.NewPart.TheVariants as new
 use Rattle.tree_model.specs.declared.node.Node.{Node}
 use Rattle.tree_model.specs.declared.walk.Walked.TheVariants.{At, AtParent, NoName, Stopped}
-use Rattle.tree_model.specs.Creating.{id_of, is_layout, make_at, new_dir, new_file, new_link}
+use Rattle.tree_model.specs.Creating.{id_of, admits_given, make_at, new_dir, new_file, new_link}
 use Rattle.tree_model.specs.Effects.{Effect, Makes, at_length, refuses, on_path}
 use Rattle.tree_model.specs.Tree.{Tree}
 use Rattle.tree_model.specs.Walk.{Trip, stay, resolve}
@@ -47,7 +47,7 @@ use Rattle.path_walk.specs.Areas.{Area, OneKey, AreRead, trip_areas}
 use Rattle.path_walk.specs.Footprint.{child_at, in_dir, in_part, if_free, trip_from, makes, call_areas}
 use Rattle.path_walk.specs.Owed.{HasRead, KeepsAreas}
 use Rattle.path_walk.specs.Puts.{ArePuts, MakesPuts, put_writes, with_puts}
-use Rattle.path_walk.specs.Stages.{trip_at, IsSameKind, IsClear}
+use Rattle.path_walk.specs.Stages.{trip_at, IsSameKind, IsFaultless}
 use Rattle.path_walk.specs.Walks.{HasEnd}
 use Rattle.path_walk.specs.declared.stage.Stage.{Stage}
 use Rattle.path_walk.specs.declared.stage.Stage.TheVariants as stages
@@ -57,7 +57,7 @@ use Rattle.path_walk.specs.Directories.{IsDirRead}
 use Rattle.path_walk.proofs.StepLaws.{tells, from_words, or_fault, same_path}
 use Rattle.path_walk.proofs.WalkLaws.{same_end}
 use Rattle.op_create.specs.declared.task.CreateTask.{CreateTask}
-use Rattle.op_create.specs.Create.{IsMaking, IsReady, IsWalkReady, IsEndStep, HasComeTo, made_at, areas_of, effect_of}
+use Rattle.op_create.specs.Create.{IsMaking, IsCreateReady, IsWalkReady, IsCreateEndStep, HasComeTo, made_at, create_areas, create_effect}
 use Rattle.op_create.specs.NewRows.{node_puts, HasDefault, MayMake}
 use Rattle.row_records.proofs.InRange.{entry_fits, made_fits, next_fits}
 use Rattle.row_tree.specs.NewRows.{IsNewRow, IsRoom, new_entry, new_row, IsPart}
@@ -100,10 +100,10 @@ by_target (Err code) effect = refl
 is_wanted : (C : Settings) (T : Tree) (q : Request) (what : Call) (where_to : Place) (node : NewNode) → IsMade what where_to node → wanted C T q.server q.stamp node where_to ≡ table.effect_of C T q what
 is_wanted C T q (calls.Mkdir from mode layout) where_to node is =
     (λ i. wanted C T q.server q.stamp (is.1 i) (is.0 i))
-    ∙ same_path (path_of from.text) _ _ (λ path. by_layout (is_layout C layout) (make_at C T q.server q.stamp (new_dir mode layout) (resolve T from.base path Parent)))
+    ∙ same_path (path_of from.text) _ _ (λ path. by_layout (admits_given C layout) (make_at C T q.server q.stamp (new_dir mode layout) (resolve T from.base path Parent)))
 is_wanted C T q (calls.Create from mode layout) where_to node is =
     (λ i. wanted C T q.server q.stamp (is.1 i) (is.0 i))
-    ∙ same_path (path_of from.text) _ _ (λ path. by_layout (is_layout C layout) (make_at C T q.server q.stamp (new_file mode layout) (resolve T from.base path Parent)))
+    ∙ same_path (path_of from.text) _ _ (λ path. by_layout (admits_given C layout) (make_at C T q.server q.stamp (new_file mode layout) (resolve T from.base path Parent)))
 is_wanted C T q (calls.Symlink from target) where_to node is =
     (λ i. wanted C T q.server q.stamp (is.1 i) (is.0 i))
     ∙ same_path (path_of from.text) _ _ (λ path. by_target (path_of target) (make_at C T q.server q.stamp (new_link target) (resolve T from.base path Parent)))
@@ -117,14 +117,14 @@ is_areas C T q what where_to node is = absurd is
 
 module _ (task : CreateTask) (q : Request) (where_to : Place) (server : task.server ≡ q.server) (stamp : task.stamp ≡ q.stamp) (is : IsMade q.call where_to task.node)
     (starts : (T : Tree) → trip_at task.stage T ≡ trip_from where_to Parent (node_fault task.config task.node) T) where
-  pub begins_so : (T : Tree) → effect_of task T ≡ effect task.config T q
+  pub begins_so : (T : Tree) → create_effect task T ≡ effect task.config T q
   begins_so T =
       ap (λ (trip : Trip). make_at task.config T task.server task.stamp task.node trip.end) (starts T)
       ∙ from_words (made_at task T) (λ code. refl) T where_to.base Parent (path_of where_to.text) (node_fault task.config task.node)
       ∙ (λ i. wanted task.config T (server i) (stamp i) task.node where_to)
       ∙ is_wanted task.config T q q.call where_to task.node is
 
-  pub begins_areas : (T : Tree) → areas_of task T ≡ call_areas task.config T q q.call
+  pub begins_areas : (T : Tree) → create_areas task T ≡ call_areas task.config T q q.call
   begins_areas T =
       ap (λ (trip : Trip). trip_areas trip (child_at task.server T)) (starts T)
       ∙ (λ i. makes task.config T (server i) where_to task.node)
@@ -156,11 +156,11 @@ part_told new.Dir ok none = tt
 part_told new.File ok none = tt
 part_told (new.Link target) ok none = and_from (text.fits target) (is_ok (path_of target)) ok (path_told (path_of target) none)
 
-walk_ready : (task : CreateTask) (stage : Stage) → IsTarget task.node.part → IsClear (node_fault task.config task.node) stage → IsWalkReady task.config task.node stage
+walk_ready : (task : CreateTask) (stage : Stage) → IsTarget task.node.part → IsFaultless (node_fault task.config task.node) stage → IsWalkReady task.config task.node stage
 walk_ready task (Refused code) ok clear = tt
 walk_ready task (Walking walk) ok clear =
     let none = no_fault (part_fault task.node.part) (layout_fault task.config task.node.layout) clear in
-    record { layout = layout_told (is_layout task.config task.node.layout) none.1; part = part_told task.node.part ok none.0 }
+    record { layout = layout_told (admits_given task.config task.node.layout) none.1; part = part_told task.node.part ok none.0 }
 
 small_stamp : (stamp : ℕ) (what : Call) → IsTrue (is_call (stamp, what)) → stamp < 2 ^ 53
 unfolding stamped_call
@@ -185,14 +185,14 @@ call_told stamp (calls.Symlink from target) where_to node fits is =
     node_told node (new_link target) is.1 (omega arith) (and_parts (place.fits from) (text.fits target) (and_parts (time.fits stamp) (place.fits from && text.fits target) fits).1).1
 call_told stamp what where_to node fits is = absurd is
 
-pub begins_ready : (task : CreateTask) (q : Request) (where_to : Place) → IsRequest task.config q → task.config.servers ≤ 16 → task.server ≡ q.server → task.stamp ≡ q.stamp → IsMade q.call where_to task.node → IsClear (node_fault task.config task.node) task.stage → IsReady task
+pub begins_ready : (task : CreateTask) (q : Request) (where_to : Place) → IsRequest task.config q → task.config.servers ≤ 16 → task.server ≡ q.server → task.stamp ≡ q.stamp → IsMade q.call where_to task.node → IsFaultless (node_fault task.config task.node) task.stage → IsCreateReady task
 begins_ready task q where_to valid few server stamp is clear =
     let told = call_told q.stamp q.call where_to task.node valid.call is in
     let less = valid.server in
     (omega arith, told.mode_small, subst (λ n. n < 2 ^ 53) (sym stamp) (small_stamp q.stamp q.call valid.call), walk_ready task task.stage told.target_is clear)
 
 -- a task goes on with its words
-pub ready_on : (task : CreateTask) (next : Stage) → IsReady task → IsSameKind task.stage next → IsReady (record task { stage = next })
+pub ready_on : (task : CreateTask) (next : Stage) → IsCreateReady task → IsSameKind task.stage next → IsCreateReady (record task { stage = next })
 ready_on task next ready same = (ready.0, ready.1, ready.2, by task.stage next same ready.3)
   where
     by : (old next : Stage) → IsSameKind old next → IsWalkReady task.config task.node old → IsWalkReady task.config task.node next
@@ -223,17 +223,18 @@ puts_made task dir name layout number id t a b u row kind none id_is row_is kind
 -- ---- where the way comes to no free name
 
 module _ (task : CreateTask) (t : Transaction) (none : t.writes ≡ []) where
-  pub at_node : (id : ℕ) (kind : Kind) → IsEndStep task (At id kind) t t (steps.Reply (Refused codes.Exists))
+  pub at_node : (id : ℕ) (kind : Kind)
+      → IsCreateEndStep task (At id kind) t t (steps.Reply (Refused codes.Exists))
   at_node id kind = tells task.config (λ T. child_at task.server T (At id kind)) (λ T. made_at task T (At id kind)) t none (Refused codes.Exists) (λ S good agrees. tt) (λ S good agrees. refl)
 
-  pub no_name : (id : ℕ) → IsEndStep task (NoName id) t t (steps.Reply (Refused codes.Exists))
+  pub no_name : (id : ℕ) → IsCreateEndStep task (NoName id) t t (steps.Reply (Refused codes.Exists))
   no_name id = tells task.config (λ T. child_at task.server T (NoName id)) (λ T. made_at task T (NoName id)) t none (Refused codes.Exists) (λ S good agrees. tt) (λ S good agrees. refl)
 
-  pub stopped : (code : Code) → IsEndStep task (Stopped code) t t (steps.Reply (Refused code))
+  pub stopped : (code : Code) → IsCreateEndStep task (Stopped code) t t (steps.Reply (Refused code))
   stopped code = tells task.config (λ T. child_at task.server T (Stopped code)) (λ T. made_at task T (Stopped code)) t none (Refused code) (λ S good agrees. tt) (λ S good agrees. refl)
 
 -- a way that ends before a name has passed the words
-pub has_come : (task : CreateTask) (reads : ReadSet) (dir : ℕ) (name : List ℕ) → IsReady task → HasEnd (trip_at task.stage) reads (AtParent dir name) → HasComeTo task reads
+pub has_come : (task : CreateTask) (reads : ReadSet) (dir : ℕ) (name : List ℕ) → IsCreateReady task → HasEnd (trip_at task.stage) reads (AtParent dir name) → HasComeTo task reads
 has_come task reads dir name ready end S good agrees = by task.stage ready.3 (same_end (trip_at task.stage) (λ T. stay (AtParent dir name)) reads end task.config S good agrees)
   where
     by : (stage : Stage) → IsWalkReady task.config task.node stage → AtParent dir name ≡ (trip_at stage (tree_of S)).end → IsMaking task.config task.node
@@ -252,25 +253,25 @@ module _ (task : CreateTask) (dir : ℕ) (name : List ℕ) where
   is_dir reads default has = record { row = has.row; is_dir = ap kind_of has.is_dir; seen = has.seen; there = has.there }
 
   module _ (t : Transaction) (none : t.writes ≡ []) where
-    pub asks_dir : (key : Key) → (key ≡ keys.Inode dir) × IsUnread t.reads (keys.Inode dir) → IsEndStep task (AtParent dir name) t t (steps.Ask (asks.Get key))
+    pub asks_dir : (key : Key) → (key ≡ keys.Inode dir) × IsUnread t.reads (keys.Inode dir) → IsCreateEndStep task (AtParent dir name) t t (steps.Ask (asks.Get key))
     asks_dir key unread = names.asks_dir task.config (keys.Alloc task.server) outcome dir name t none key unread
 
-    pub nowhere : IsKeyRead t.reads (keys.Inode dir) → ((C : Settings) (S : TypedRows) → IsWellFormed C S → Agrees S t.reads → HasKind S dir kinds.Dir → ⊥) → IsEndStep task (AtParent dir name) t t (steps.Reply (Refused codes.NotDir))
+    pub nowhere : IsKeyRead t.reads (keys.Inode dir) → ((C : Settings) (S : TypedRows) → IsWellFormed C S → Agrees S t.reads → HasKind S dir kinds.Dir → ⊥) → IsCreateEndStep task (AtParent dir name) t t (steps.Reply (Refused codes.NotDir))
     nowhere read not_dir =
         names.nowhere task.config (keys.Alloc task.server) outcome dir name t none read (not_dir task.config) (Refused codes.NotDir)
         (λ S good agrees. make_nowhere task.config S good task.server task.stamp task.node dir name (not_dir task.config S good agrees))
 
   module _ (t : Transaction) (none : t.writes ≡ []) (default : DefaultLayout) (has : HasDefault t.reads dir default) where
-    pub asks_name : (key : Key) → (key ≡ keys.Dent dir name) × IsUnread t.reads (keys.Dent dir name) → IsEndStep task (AtParent dir name) t t (steps.Ask (asks.Get key))
+    pub asks_name : (key : Key) → (key ≡ keys.Dent dir name) × IsUnread t.reads (keys.Dent dir name) → IsCreateEndStep task (AtParent dir name) t t (steps.Ask (asks.Get key))
     asks_name key unread = names.asks_name task.config (keys.Alloc task.server) outcome dir name t none (is_dir t.reads default has) key unread
 
-    pub taken : (e : DentRow) → IsKeyRead t.reads (keys.Dent dir name) → ((S : TypedRows) → Agrees S t.reads → get S.dents (dir, name) ≡ Some e) → IsEndStep task (AtParent dir name) t t (steps.Reply (Refused codes.Exists))
+    pub taken : (e : DentRow) → IsKeyRead t.reads (keys.Dent dir name) → ((S : TypedRows) → Agrees S t.reads → get S.dents (dir, name) ≡ Some e) → IsCreateEndStep task (AtParent dir name) t t (steps.Reply (Refused codes.Exists))
     taken e read is =
         names.taken task.config (keys.Alloc task.server) outcome dir name t none (is_dir t.reads default has) e read is (Refused codes.Exists)
         (λ S good agrees. make_taken task.config S good task.server task.stamp task.node dir name e (is S agrees))
 
     pub asks_next : (key : Key) → IsKeyRead t.reads (keys.Dent dir name) → ((S : TypedRows) → Agrees S t.reads → get S.dents (dir, name) ≡ None) → (key ≡ keys.Alloc task.server) × IsUnread t.reads (keys.Alloc task.server)
-        → IsEndStep task (AtParent dir name) t t (steps.Ask (asks.Get key))
+        → IsCreateEndStep task (AtParent dir name) t t (steps.Ask (asks.Get key))
     asks_next key read free unread = names.asks_last task.config (keys.Alloc task.server) outcome dir name t none (is_dir t.reads default has) key read free unread
 
   -- ---- all was read
@@ -296,7 +297,7 @@ module _ (task : CreateTask) (dir : ℕ) (name : List ℕ) where
     full_made : 4294967295 ≤ number → (S : TypedRows) → IsWellFormed task.config S → Agrees S reads → outcome (tree_of S) ≡ refuses (codes.AtLimit Inodes)
     full_made full S good agrees = make_full task.config S good task.server task.stamp task.node dir name default number (room S agrees) full
 
-    module _ (ready : IsReady task) (come : HasComeTo task reads) (below : number < 4294967295) (few : task.config.chains ≤ 256) (small : dir < 2 ^ 36) (named : IsTrue (is_name name)) where
+    module _ (ready : IsCreateReady task) (come : HasComeTo task reads) (below : number < 4294967295) (few : task.config.chains ≤ 256) (small : dir < 2 ^ 36) (named : IsTrue (is_name name)) where
       id_small : id_of number task.server < 2 ^ 36
       id_small = let server = ready.0 in omega arith
 
@@ -349,14 +350,14 @@ module _ (task : CreateTask) (dir : ℕ) (name : List ℕ) where
           (subst (IsWellFormed task.config) same one.0, ap (at_length 0) one.1 ∙ ap (λ (U : TypedRows). Makes (tree_of U) (Made (id_of number task.server))) same)
 
   module _ (t : Transaction) (none : t.writes ≡ []) (default : DefaultLayout) (number : ℕ) (may : MayMake task t.reads dir name default number) where
-    pub full_done : 4294967295 ≤ number → IsEndStep task (AtParent dir name) t t (steps.Reply (Refused (codes.AtLimit Inodes)))
+    pub full_done : 4294967295 ≤ number → IsCreateEndStep task (AtParent dir name) t t (steps.Reply (Refused (codes.AtLimit Inodes)))
     full_done full = tells task.config areas outcome t none (Refused (codes.AtLimit Inodes)) (all_read t.reads default number may) (full_made t.reads default number may full)
 
-    pub one_done : IsReady task → HasComeTo task t.reads → number < 4294967295 → task.config.chains ≤ 256 → dir < 2 ^ 36 → IsTrue (is_name name) → (u : Transaction) (given : ℕ) (asked : List Asked)
+    pub one_done : IsCreateReady task → HasComeTo task t.reads → number < 4294967295 → task.config.chains ≤ 256 → dir < 2 ^ 36 → IsTrue (is_name name) → (u : Transaction) (given : ℕ) (asked : List Asked)
         → u ≡ record t { writes = put_writes (node_puts task dir name (unwrap_or task.node.layout default) number) } → given ≡ id_of number task.server → asked ≡ []
-        → IsEndStep task (AtParent dir name) t u (steps.Commit (Made given) asked)
+        → IsCreateEndStep task (AtParent dir name) t u (steps.Commit (Made given) asked)
     one_done ready come below few small named u given asked after is empty =
-        subst (λ (x : ℕ). IsEndStep task (AtParent dir name) t u (steps.Commit (Made x) asked)) (sym is)
+        subst (λ (x : ℕ). IsCreateEndStep task (AtParent dir name) t u (steps.Commit (Made x) asked)) (sym is)
         (puts_done task.config areas outcome t u (Made (id_of number task.server)) asked (node_puts task dir name (unwrap_or task.node.layout default) number) (all_read t.reads default number may)
         (puts_are t.reads default number may ready come below few small named) after
         (made_fits (id_of number task.server) (id_small t.reads default number may ready come below few small named)) empty (makes_node t.reads default number may ready come below few small named))

@@ -10,7 +10,7 @@ use Rattle.row_tree.specs.TypedRows.{TypedRows}
 use Rattle.row_tree.specs.WellFormed.{IsWellFormed}
 use Rattle.tree_model.specs.declared.new_node.NewNode.{NewNode}
 use Rattle.tree_model.specs.declared.walk.Walked.{Walked}
-use Rattle.tree_model.specs.Creating.{is_layout, make_at}
+use Rattle.tree_model.specs.Creating.{admits_given, make_at}
 use Rattle.tree_model.specs.Effects.{Effect}
 use Rattle.tree_model.specs.Tree.{Tree}
 use Rattle.txn_task.specs.Agreeing.{Agrees}
@@ -35,22 +35,22 @@ IsCreateCall _ = ⊥
 abbrev pub made_at : CreateTask → Tree → Walked → Effect
 made_at task T walked = make_at task.config T task.server task.stamp task.node walked
 
-abbrev pub effect_of : CreateTask → Tree → Effect
-effect_of task = does (made_at task) (trip_at task.stage)
+abbrev pub create_effect : CreateTask → Tree → Effect
+create_effect task = does (made_at task) (trip_at task.stage)
 
-abbrev pub areas_of : CreateTask → Tree → List Area
-areas_of task = looks (child_at task.server) (trip_at task.stage)
+abbrev pub create_areas : CreateTask → Tree → List Area
+create_areas task = looks (child_at task.server) (trip_at task.stage)
 
 -- a step there
-abbrev pub IsEndStep : CreateTask → Walked → Transaction → Transaction → OpStep → Type 0
-IsEndStep task walked before after s =
+abbrev pub IsCreateEndStep : CreateTask → Walked → Transaction → Transaction → OpStep → Type 0
+IsCreateEndStep task walked before after s =
     HasDone task.config (λ T. child_at task.server T walked) (λ T. made_at task T walked) before after s
 
 -- ---- what the row of the new node asks
 
 -- past the words of the call
 pub record IsMaking (C : Settings) (node : NewNode) : Type 0 where
-  pub layout : is_layout C node.layout ≡ true
+  pub layout : admits_given C node.layout ≡ true
   pub part : IsPart node.part
 
 abbrev pub IsWalkReady : Settings → NewNode → Stage → Type 0
@@ -58,8 +58,8 @@ IsWalkReady C node (Refused code) = Unit {0}
 IsWalkReady C node (Walking walk) = IsMaking C node
 
 -- numbers in their ranges, and past the words where the walk is under way
-abbrev pub IsReady : CreateTask → Type 0
-IsReady task =
+abbrev pub IsCreateReady : CreateTask → Type 0
+IsCreateReady task =
     (task.server < SERVERS) × (task.node.mode < MODES) × (task.stamp < TIMES)
     × IsWalkReady task.config task.node task.stage
 

@@ -42,12 +42,12 @@ pub record HasDefault (reads : ReadSet) (dir : ℕ) (layout : DefaultLayout) : T
 
 -- its row is still to be asked for, or no well-formed rows that agree have a directory there, or all have one
 -- with this default
-abbrev pub IsInDir : InDir → ReadSet → ℕ → Type 0
-IsInDir (found.Ask key) reads dir = (key ≡ keys.Inode dir) × IsUnread reads (keys.Inode dir)
-IsInDir found.NotDir reads dir =
+abbrev pub IsDefaultFound : InDir → ReadSet → ℕ → Type 0
+IsDefaultFound (found.Ask key) reads dir = (key ≡ keys.Inode dir) × IsUnread reads (keys.Inode dir)
+IsDefaultFound found.NotDir reads dir =
     IsKeyRead reads (keys.Inode dir)
     × ((C : Settings) (S : TypedRows) → IsWellFormed C S → Agrees S reads → HasKind S dir kinds.Dir → ⊥)
-IsInDir (found.Default layout) reads dir = HasDefault reads dir layout
+IsDefaultFound (found.Default layout) reads dir = HasDefault reads dir layout
 
 -- the directory has this default, the name is free in it, and the server's next number is this
 pub record MayMake (task : CreateTask) (reads : ReadSet) (dir : ℕ) (name : List ℕ) (default : DefaultLayout)

@@ -3,8 +3,9 @@ ghost use Rattle.tree_model.specs.declared.walk.Walked.TheVariants.{AtParent};
 ghost use Rattle.path_walk.specs.Owed.{HasStepped};
 ghost use Rattle.path_walk.specs.Stages.{trip_at};
 ghost use Rattle.path_walk.specs.Walks.{HasEnd};
-ghost use Rattle.op_create.specs.Create.{IsEndStep, IsReady, HasComeTo, areas_of, effect_of};
-ghost use Rattle.op_create.specs.NewRows.{IsInDir};
+ghost use Rattle.op_create.specs.Create.{IsCreateEndStep, IsCreateReady, HasComeTo, create_areas};
+ghost use Rattle.op_create.specs.Create.{create_effect};
+ghost use Rattle.op_create.specs.NewRows.{IsDefaultFound};
 
 use crate::task::CreateTask;
 use fs_base::{Code, DefaultLayout, InodeId, Memory, Name, Reply};
@@ -27,7 +28,7 @@ pub(crate) enum InDir {
 }
 
 fn in_dir(alloc: Global, txn: &Txn, dir: InodeId) -> Result<InDir, Memory>
-    ensures { IfOk result (λ found. IsInDir found txn.now.reads dir) }
+    ensures { IfOk result (λ found. IsDefaultFound found txn.now.reads dir) }
 {
     let row = match want_inode(alloc, txn, dir)? {
         Want::Ask(key) => return Ok(InDir::Ask(key)),
@@ -48,13 +49,14 @@ impl CreateTask {
     ///
     /// Once memory ran out the answer is want of memory from then on.
     pub fn next(&mut self, alloc: Global, answer: Answer, txn: &mut Txn) -> Result<OpStep, Memory>
-        requires ready { IsReady self.old }
+        requires ready { IsCreateReady self.old }
         requires writes { txn.old.writes ≡ [] }
         ensures config { OnOk result (self.new.config ≡ self.old.config) }
-        ensures ready { OnOk result (IsReady self.new) }
+        ensures ready { OnOk result (IsCreateReady self.new) }
         ensures step { IfOk result
-            (HasStepped self.old.config (areas_of self.old) (areas_of self.new) (effect_of self.old)
-            (effect_of self.new) txn.old txn.new) }
+            (HasStepped self.old.config (create_areas self.old) (create_areas self.new)
+            (create_effect self.old)
+            (create_effect self.new) txn.old txn.new) }
         ensures alive { OnOk result ((self.old.failed ≡ false) × (self.new.failed ≡ false)) }
         ensures err { OnErr result (self.new.failed ≡ true) }
     {
@@ -69,13 +71,14 @@ impl CreateTask {
 
     /// The walk, and what is made where it ends.
     fn go_on(&mut self, alloc: Global, txn: &mut Txn) -> Result<OpStep, Memory>
-        requires ready { IsReady self.old }
+        requires ready { IsCreateReady self.old }
         requires writes { txn.old.writes ≡ [] }
         ensures config { OnOk result (self.new.config ≡ self.old.config) }
-        ensures ready { OnOk result (IsReady self.new) }
+        ensures ready { OnOk result (IsCreateReady self.new) }
         ensures step { IfOk result
-            (HasStepped self.old.config (areas_of self.old) (areas_of self.new) (effect_of self.old)
-            (effect_of self.new) txn.old txn.new) }
+            (HasStepped self.old.config (create_areas self.old) (create_areas self.new)
+            (create_effect self.old)
+            (create_effect self.new) txn.old txn.new) }
     {
         match self.stage.next(alloc, txn)? {
             Reached::Ask(ask) => Ok(OpStep::Ask(ask)),
@@ -88,10 +91,10 @@ impl CreateTask {
 
     /// What the call does where its walk ends.
     fn at_end(&self, alloc: Global, txn: &mut Txn, walked: Walked) -> Result<OpStep, Memory>
-        requires ready { IsReady self.now }
+        requires ready { IsCreateReady self.now }
         requires writes { txn.old.writes ≡ [] }
         requires end { HasEnd (trip_at self.now.stage) txn.old.reads walked }
-        ensures { IfOk result (IsEndStep self.now walked txn.old txn.new) }
+        ensures { IfOk result (IsCreateEndStep self.now walked txn.old txn.new) }
     {
         match walked {
             Walked::At(_, _) => Ok(OpStep::Reply(Reply::Refused(Code::Exists))),
@@ -106,10 +109,10 @@ impl CreateTask {
 
     /// In the directory where the walk has come.
     fn make(&self, alloc: Global, txn: &mut Txn, dir: InodeId, name: Name) -> Result<OpStep, Memory>
-        requires ready { IsReady self.now }
+        requires ready { IsCreateReady self.now }
         requires come { HasComeTo self.now txn.old.reads }
         requires writes { txn.old.writes ≡ [] }
-        ensures { IfOk result (IsEndStep self.now (AtParent dir name) txn.old txn.new) }
+        ensures { IfOk result (IsCreateEndStep self.now (AtParent dir name) txn.old txn.new) }
     {
         let default = match in_dir(alloc, txn, dir)? {
             InDir::Ask(key) => return Ok(OpStep::Ask(Ask::Get(key))),

@@ -3,7 +3,7 @@ ghost use Rattle.fs_base.specs.Names.{is_name};
 ghost use Rattle.tree_model.specs.Creating.{id_of};
 ghost use Rattle.tree_model.specs.declared.walk.Walked.TheVariants.{AtParent};
 ghost use Rattle.path_walk.specs.Puts.{put_writes};
-ghost use Rattle.op_create.specs.Create.{IsEndStep, IsReady, HasComeTo};
+ghost use Rattle.op_create.specs.Create.{IsCreateEndStep, IsCreateReady, HasComeTo};
 ghost use Rattle.row_tree.specs.NewRows.{new_row, row_part};
 ghost use Rattle.op_create.specs.NewRows.{MayMake, node_puts};
 
@@ -117,11 +117,11 @@ impl CreateTask {
         default: DefaultLayout,
         number: u64,
     ) -> Result<OpStep, Memory>
-        requires ready { IsReady self.now }
+        requires ready { IsCreateReady self.now }
         requires come { HasComeTo self.now txn.old.reads }
         requires writes { txn.old.writes ≡ [] }
         requires may { MayMake self.now txn.old.reads dir name.now default number }
-        ensures { IfOk result (IsEndStep self.now (AtParent dir name.now) txn.old txn.new) }
+        ensures { IfOk result (IsCreateEndStep self.now (AtParent dir name.now) txn.old txn.new) }
     {
         if number >= LAST_NUMBER as u64 {
             return Ok(OpStep::Reply(Reply::Refused(Code::AtLimit(Limit::Inodes))));

@@ -6,7 +6,7 @@ ghost use Rattle.path_walk.specs.Faults.{node_fault, part_fault, refusal};
 ghost use Rattle.path_walk.specs.Footprint.{call_areas};
 ghost use Rattle.path_walk.specs.Requests.{IsRequest};
 ghost use Rattle.op_create.specs.Beginning.{HasTarget, IsMade};
-ghost use Rattle.op_create.specs.Create.{IsCreateCall, IsReady, areas_of, effect_of};
+ghost use Rattle.op_create.specs.Create.{IsCreateCall, IsCreateReady, create_areas, create_effect};
 
 use fs_base::limits::SERVERS;
 use fs_base::{Call, Code, Config, Memory, Place, Request, Text};
@@ -76,11 +76,11 @@ impl CreateTask {
         requires valid { IsRequest config.now request.now }
         requires call { IsCreateCall request.now.call }
         ensures config { IfOk result (λ task. task.config ≡ config.now) }
-        ensures effect { IfOk result (λ task. (T : Tree) → effect_of task T ≡ effect config.now T request.now) }
+        ensures effect { IfOk result (λ task. (T : Tree) → create_effect task T ≡ effect config.now T request.now) }
         ensures areas { IfOk result
             (λ task. (T : Tree)
-            → areas_of task T ≡ call_areas config.now T request.now request.now.call) }
-        ensures ready { IfOk result IsReady }
+            → create_areas task T ≡ call_areas config.now T request.now request.now.call) }
+        ensures ready { IfOk result IsCreateReady }
     {
         match &request.call {
             Call::Mkdir {
@@ -112,11 +112,11 @@ impl CreateTask {
         requires valid { IsRequest config.now request.now }
         requires made { IsMade request.now.call place.now node }
         ensures config { IfOk result (λ task. task.config ≡ config.now) }
-        ensures effect { IfOk result (λ task. (T : Tree) → effect_of task T ≡ effect config.now T request.now) }
+        ensures effect { IfOk result (λ task. (T : Tree) → create_effect task T ≡ effect config.now T request.now) }
         ensures areas { IfOk result
             (λ task. (T : Tree)
-            → areas_of task T ≡ call_areas config.now T request.now request.now.call) }
-        ensures ready { IfOk result IsReady }
+            → create_areas task T ≡ call_areas config.now T request.now request.now.call) }
+        ensures ready { IfOk result IsCreateReady }
     {
         few_servers(config);
         let fault = node_fault(alloc, config, &node)?;

@@ -35,14 +35,14 @@ use Rattle.txn_task.specs.declared.messages.Asked.{Asked}
 use Rattle.txn_task.specs.declared.messages.OpStep.TheVariants as steps
 use Rattle.path_walk.specs.Areas.{Area}
 use Rattle.path_walk.specs.Directories.{IsDirRead}
-use Rattle.path_walk.specs.Footprint.{name_at}
+use Rattle.path_walk.specs.Footprint.{free_name_at}
 use Rattle.path_walk.specs.Owed.{HasRead}
 use Rattle.path_walk.specs.Puts.{ArePuts, MakesPuts, put_writes}
 use Rattle.path_walk.proofs.NameLaws as names
 use Rattle.path_walk.proofs.PutLaws.{puts_done}
 use Rattle.path_walk.proofs.StepLaws.{tells}
-use Rattle.op_link.specs.Ending.{IsEndStep, IsJoinStep, IsSource, MayJoin}
-use Rattle.op_link.specs.Link.{does_at, reads_at}
+use Rattle.op_link.specs.Ending.{IsLinkEndStep, IsJoinStep, IsSource, MayJoin}
+use Rattle.op_link.specs.Link.{link_does_at, link_reads_at}
 use Rattle.path_walk.specs.RowPuts.{join_puts}
 use Rattle.op_link.specs.declared.task.LinkCall.{LinkCall}
 use Rattle.op_link.specs.declared.task.LinkCall.TheVariants as link
@@ -55,29 +55,29 @@ module _ (t : Transaction) (none : t.writes ≡ []) (to : Place) (stamp : ℕ) w
   abbrev call : LinkCall
   call = link.Link to
 
-  pub from_dir : (id : ℕ) → IsEndStep (link.Link to) stamp (At id kinds.Dir) t t (steps.Reply (Refused codes.IsDir))
-  from_dir id C = tells C (λ T. reads_at call T (At id kinds.Dir)) (λ T. does_at call stamp T (At id kinds.Dir)) t none (Refused codes.IsDir) (λ S good agrees. tt) (λ S good agrees. refl)
+  pub from_dir : (id : ℕ) → IsLinkEndStep (link.Link to) stamp (At id kinds.Dir) t t (steps.Reply (Refused codes.IsDir))
+  from_dir id C = tells C (λ T. link_reads_at call T (At id kinds.Dir)) (λ T. link_does_at call stamp T (At id kinds.Dir)) t none (Refused codes.IsDir) (λ S good agrees. tt) (λ S good agrees. refl)
 
-  pub from_parent : (dir : ℕ) (name : List ℕ) → IsEndStep (link.Link to) stamp (AtParent dir name) t t (steps.Reply (Refused codes.NotDir))
-  from_parent dir name C = tells C (λ T. reads_at call T (AtParent dir name)) (λ T. does_at call stamp T (AtParent dir name)) t none (Refused codes.NotDir) (λ S good agrees. tt) (λ S good agrees. refl)
+  pub from_parent : (dir : ℕ) (name : List ℕ) → IsLinkEndStep (link.Link to) stamp (AtParent dir name) t t (steps.Reply (Refused codes.NotDir))
+  from_parent dir name C = tells C (λ T. link_reads_at call T (AtParent dir name)) (λ T. link_does_at call stamp T (AtParent dir name)) t none (Refused codes.NotDir) (λ S good agrees. tt) (λ S good agrees. refl)
 
-  pub from_no_name : (dir : ℕ) → IsEndStep (link.Link to) stamp (NoName dir) t t (steps.Reply (Refused codes.NotDir))
-  from_no_name dir C = tells C (λ T. reads_at call T (NoName dir)) (λ T. does_at call stamp T (NoName dir)) t none (Refused codes.NotDir) (λ S good agrees. tt) (λ S good agrees. refl)
+  pub from_no_name : (dir : ℕ) → IsLinkEndStep (link.Link to) stamp (NoName dir) t t (steps.Reply (Refused codes.NotDir))
+  from_no_name dir C = tells C (λ T. link_reads_at call T (NoName dir)) (λ T. link_does_at call stamp T (NoName dir)) t none (Refused codes.NotDir) (λ S good agrees. tt) (λ S good agrees. refl)
 
-  pub from_stopped : (code : Code) → IsEndStep (link.Link to) stamp (Stopped code) t t (steps.Reply (Refused code))
-  from_stopped code C = tells C (λ T. reads_at call T (Stopped code)) (λ T. does_at call stamp T (Stopped code)) t none (Refused code) (λ S good agrees. tt) (λ S good agrees. refl)
+  pub from_stopped : (code : Code) → IsLinkEndStep (link.Link to) stamp (Stopped code) t t (steps.Reply (Refused code))
+  from_stopped code C = tells C (λ T. link_reads_at call T (Stopped code)) (λ T. link_does_at call stamp T (Stopped code)) t none (Refused code) (λ S good agrees. tt) (λ S good agrees. refl)
 
 -- ---- where the second way comes to no name
 
 module _ (t : Transaction) (none : t.writes ≡ []) (id stamp : ℕ) where
   pub to_node : (other : ℕ) (kind : Kind) → IsJoinStep id stamp (At other kind) t t (steps.Reply (Refused codes.Exists))
-  to_node other kind C = tells C (λ T. name_at (keys.Inode id) T (At other kind)) (λ T. link_to T stamp id (At other kind)) t none (Refused codes.Exists) (λ S good agrees. tt) (λ S good agrees. refl)
+  to_node other kind C = tells C (λ T. free_name_at (keys.Inode id) T (At other kind)) (λ T. link_to T stamp id (At other kind)) t none (Refused codes.Exists) (λ S good agrees. tt) (λ S good agrees. refl)
 
   pub to_no_name : (dir : ℕ) → IsJoinStep id stamp (NoName dir) t t (steps.Reply (Refused codes.Exists))
-  to_no_name dir C = tells C (λ T. name_at (keys.Inode id) T (NoName dir)) (λ T. link_to T stamp id (NoName dir)) t none (Refused codes.Exists) (λ S good agrees. tt) (λ S good agrees. refl)
+  to_no_name dir C = tells C (λ T. free_name_at (keys.Inode id) T (NoName dir)) (λ T. link_to T stamp id (NoName dir)) t none (Refused codes.Exists) (λ S good agrees. tt) (λ S good agrees. refl)
 
   pub to_stopped : (code : Code) → IsJoinStep id stamp (Stopped code) t t (steps.Reply (Refused code))
-  to_stopped code C = tells C (λ T. name_at (keys.Inode id) T (Stopped code)) (λ T. link_to T stamp id (Stopped code)) t none (Refused code) (λ S good agrees. tt) (λ S good agrees. refl)
+  to_stopped code C = tells C (λ T. free_name_at (keys.Inode id) T (Stopped code)) (λ T. link_to T stamp id (Stopped code)) t none (Refused code) (λ S good agrees. tt) (λ S good agrees. refl)
 
 -- ---- at a name in a directory
 
@@ -86,7 +86,7 @@ module _ (id stamp dir : ℕ) (name : List ℕ) where
   outcome T = link_to T stamp id (AtParent dir name)
 
   abbrev areas : Tree → List Area
-  areas T = name_at (keys.Inode id) T (AtParent dir name)
+  areas T = free_name_at (keys.Inode id) T (AtParent dir name)
 
   module _ (t : Transaction) (none : t.writes ≡ []) where
     pub asks_dir : (key : Key) → (key ≡ keys.Inode dir) × IsUnread t.reads (keys.Inode dir) → IsJoinStep id stamp (AtParent dir name) t t (steps.Ask (asks.Get key))
@@ -119,7 +119,7 @@ module _ (id stamp dir : ℕ) (name : List ℕ) where
   -- ---- all was read
 
   module _ (reads : ReadSet) (row : InodeRow) (source : IsSource reads id) (may : MayJoin reads dir name id row) (C : Settings) where
-    all_read : HasRead C (λ T. name_at (keys.Inode id) T (AtParent dir name)) reads
+    all_read : HasRead C (λ T. free_name_at (keys.Inode id) T (AtParent dir name)) reads
     all_read = names.all_read C (keys.Inode id) outcome dir name reads may.in_dir may.seen_name may.free (may.node).seen
 
     no_dir : (S : TypedRows) → IsWellFormed C S → Agrees S reads → kind_of row.part ≢ kinds.Dir

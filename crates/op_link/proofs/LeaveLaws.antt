@@ -43,7 +43,7 @@ use Rattle.path_walk.proofs.NameLaws as names
 use Rattle.path_walk.proofs.PutLaws.{puts_done}
 use Rattle.path_walk.proofs.StepLaws.{areas_on, asks_key, read_behind, tells}
 use Rattle.path_walk.specs.Directories.{IsEntryRead, IsRowRead}
-use Rattle.op_link.specs.Ending.{IsEndStep}
+use Rattle.op_link.specs.Ending.{IsLinkEndStep}
 use Rattle.path_walk.specs.RowPuts.{unlinked_puts}
 use Rattle.op_link.specs.declared.task.LinkCall.TheVariants as link
 use Rattle.path_walk.proofs.UnlinkLaws.{unlinked_are, unlinked_made}
@@ -51,13 +51,15 @@ use Rattle.path_walk.proofs.UnlinkLaws.{unlinked_are, unlinked_made}
 -- ---- where the way comes to no name
 
 module _ (t : Transaction) (none : t.writes ≡ []) (stamp : ℕ) where
-  pub at_node : (id : ℕ) (kind : Kind) → IsEndStep link.Unlink stamp (At id kind) t t (steps.Reply (Refused codes.IsRoot))
+  pub at_node : (id : ℕ) (kind : Kind) → IsLinkEndStep link.Unlink stamp (At id kind) t t (steps.Reply (Refused codes.IsRoot))
   at_node id kind C = tells C (λ T. unlinked_at T (At id kind)) (λ T. unlink_at T stamp (At id kind)) t none (Refused codes.IsRoot) (λ S good agrees. tt) (λ S good agrees. refl)
 
-  pub no_name : (dir : ℕ) → IsEndStep link.Unlink stamp (NoName dir) t t (steps.Reply (Refused codes.IsRoot))
+  pub no_name : (dir : ℕ)
+      → IsLinkEndStep link.Unlink stamp (NoName dir) t t (steps.Reply (Refused codes.IsRoot))
   no_name dir C = tells C (λ T. unlinked_at T (NoName dir)) (λ T. unlink_at T stamp (NoName dir)) t none (Refused codes.IsRoot) (λ S good agrees. tt) (λ S good agrees. refl)
 
-  pub stopped : (code : Code) → IsEndStep link.Unlink stamp (Stopped code) t t (steps.Reply (Refused code))
+  pub stopped : (code : Code)
+      → IsLinkEndStep link.Unlink stamp (Stopped code) t t (steps.Reply (Refused code))
   stopped code C = tells C (λ T. unlinked_at T (Stopped code)) (λ T. unlink_at T stamp (Stopped code)) t none (Refused code) (λ S good agrees. tt) (λ S good agrees. refl)
 
 beside_dir : (part : InodePart) (areas : List Area) → kind_of part ≡ kinds.Dir → beside_part (node_part part) areas ≡ []
@@ -81,10 +83,10 @@ module _ (stamp dir : ℕ) (name : List ℕ) where
   node T id = unless_dir (get T.nodes id) (OneKey (keys.Inode id) ∷ [])
 
   module _ (t : Transaction) (none : t.writes ≡ []) where
-    pub asks_entry : (key : Key) → (key ≡ keys.Dent dir name) × IsUnread t.reads (keys.Dent dir name) → IsEndStep link.Unlink stamp (AtParent dir name) t t (steps.Ask (asks.Get key))
+    pub asks_entry : (key : Key) → (key ≡ keys.Dent dir name) × IsUnread t.reads (keys.Dent dir name) → IsLinkEndStep link.Unlink stamp (AtParent dir name) t t (steps.Ask (asks.Get key))
     asks_entry key unread C = names.asks_entry C outcome dir name node t none key unread
 
-    pub no_entry : IsKeyRead t.reads (keys.Dent dir name) → ((S : TypedRows) → Agrees S t.reads → get S.dents (dir, name) ≡ None) → IsEndStep link.Unlink stamp (AtParent dir name) t t (steps.Reply (Refused codes.NotFound))
+    pub no_entry : IsKeyRead t.reads (keys.Dent dir name) → ((S : TypedRows) → Agrees S t.reads → get S.dents (dir, name) ≡ None) → IsLinkEndStep link.Unlink stamp (AtParent dir name) t t (steps.Reply (Refused codes.NotFound))
     no_entry read free C = names.no_entry C outcome dir name node t none read free (Refused codes.NotFound) (λ S good agrees. unlink_absent C S good stamp dir name (free S agrees))
 
   -- ---- of what the entry leads to
@@ -113,15 +115,15 @@ module _ (stamp dir : ℕ) (name : List ℕ) where
     all_read other seen = read_behind C areas (λ T. OneKey (keys.Inode e.inode) ∷ []) reads (behind_other other) (λ S good agrees. (seen, tt))
 
   module _ (t : Transaction) (none : t.writes ≡ []) (e : DentRow) (entry : IsEntryRead t.reads dir name e) where
-    pub at_dir : e.kind ≡ kinds.Dir → IsEndStep link.Unlink stamp (AtParent dir name) t t (steps.Reply (Refused codes.IsDir))
+    pub at_dir : e.kind ≡ kinds.Dir → IsLinkEndStep link.Unlink stamp (AtParent dir name) t t (steps.Reply (Refused codes.IsDir))
     at_dir is_dir C = tells C areas outcome t none (Refused codes.IsDir) (no_more C t.reads e entry is_dir) (λ S good agrees. unlink_dir C S good stamp dir name e (entry.there S agrees) is_dir)
 
     module _ (other : e.kind ≢ kinds.Dir) where
-      pub asks_node : (key : Key) → (key ≡ keys.Inode e.inode) × IsUnread t.reads (keys.Inode e.inode) → IsEndStep link.Unlink stamp (AtParent dir name) t t (steps.Ask (asks.Get key))
+      pub asks_node : (key : Key) → (key ≡ keys.Inode e.inode) × IsUnread t.reads (keys.Inode e.inode) → IsLinkEndStep link.Unlink stamp (AtParent dir name) t t (steps.Ask (asks.Get key))
       asks_node key unread C = asks_key C areas outcome t none key (keys.Inode e.inode) (λ T. []) unread (behind_other C t.reads e entry other)
 
       -- no rows have the entry, and not the node
-      pub no_node : IsKeyRead t.reads (keys.Inode e.inode) → ((S : TypedRows) → Agrees S t.reads → get S.inodes e.inode ≡ None) → IsEndStep link.Unlink stamp (AtParent dir name) t t (steps.Reply (Refused codes.NotFound))
+      pub no_node : IsKeyRead t.reads (keys.Inode e.inode) → ((S : TypedRows) → Agrees S t.reads → get S.inodes e.inode ≡ None) → IsLinkEndStep link.Unlink stamp (AtParent dir name) t t (steps.Reply (Refused codes.NotFound))
       no_node seen absent C =
           tells C areas outcome t none (Refused codes.NotFound) (all_read C t.reads e entry other seen)
           (λ S good agrees. let target = (good.entry dir name e (entry.there S agrees)).target in absurd (not_some target.0 (absent S agrees) target.1))
@@ -130,7 +132,7 @@ module _ (stamp dir : ℕ) (name : List ℕ) where
 
   module _ (t : Transaction) (none : t.writes ≡ []) (e : DentRow) (entry : IsEntryRead t.reads dir name e) (other : e.kind ≢ kinds.Dir) (row : InodeRow) (is : IsRowRead t.reads e.inode row) (small : e.inode < 2 ^ 36) (low : dir < 2 ^ 36) (named : IsTrue (is_name name)) where
     pub left_done : IsTrue (time.fits stamp) → (u : Transaction) (asked : List Asked) → asked ≡ [] → u ≡ record t { writes = put_writes (unlinked_puts stamp dir name e row) }
-        → IsEndStep link.Unlink stamp (AtParent dir name) t u (steps.Commit Done asked)
+        → IsLinkEndStep link.Unlink stamp (AtParent dir name) t u (steps.Commit Done asked)
     left_done time_ok u asked empty after C =
         puts_done C areas outcome t u Done asked (unlinked_puts stamp dir name e row) (all_read C t.reads e entry other is.seen)
         (unlinked_are stamp dir name e row C other t.reads entry is small low named time_ok) after done_fits empty

@@ -43,7 +43,7 @@ use Rattle.path_walk.proofs.NameLaws.{in_directory}
 use Rattle.path_walk.proofs.PutLaws.{puts_done}
 use Rattle.path_walk.proofs.StepLaws.{areas_on, asks_for, may_behind, read_behind, tells}
 use Rattle.path_walk.specs.Directories.{IsEntryRead}
-use Rattle.op_link.specs.Ending.{IsEndStep}
+use Rattle.op_link.specs.Ending.{IsLinkEndStep}
 use Rattle.path_walk.specs.RowPuts.{gone_puts}
 use Rattle.op_link.specs.declared.task.LinkCall.TheVariants as link
 use Rattle.path_walk.proofs.RowPutLaws.{entry_taken, node_taken}
@@ -51,13 +51,14 @@ use Rattle.path_walk.proofs.RowPutLaws.{entry_taken, node_taken}
 -- ---- where the way comes to no name
 
 module _ (t : Transaction) (none : t.writes ≡ []) (stamp : ℕ) where
-  pub at_node : (id : ℕ) (kind : Kind) → IsEndStep link.Rmdir stamp (At id kind) t t (steps.Reply (Refused codes.IsRoot))
+  pub at_node : (id : ℕ) (kind : Kind) → IsLinkEndStep link.Rmdir stamp (At id kind) t t (steps.Reply (Refused codes.IsRoot))
   at_node id kind C = tells C (λ T. emptied_at T (At id kind)) (λ T. rmdir_at T (At id kind)) t none (Refused codes.IsRoot) (λ S good agrees. tt) (λ S good agrees. refl)
 
-  pub no_name : (dir : ℕ) → IsEndStep link.Rmdir stamp (NoName dir) t t (steps.Reply (Refused codes.IsRoot))
+  pub no_name : (dir : ℕ)
+      → IsLinkEndStep link.Rmdir stamp (NoName dir) t t (steps.Reply (Refused codes.IsRoot))
   no_name dir C = tells C (λ T. emptied_at T (NoName dir)) (λ T. rmdir_at T (NoName dir)) t none (Refused codes.IsRoot) (λ S good agrees. tt) (λ S good agrees. refl)
 
-  pub stopped : (code : Code) → IsEndStep link.Rmdir stamp (Stopped code) t t (steps.Reply (Refused code))
+  pub stopped : (code : Code) → IsLinkEndStep link.Rmdir stamp (Stopped code) t t (steps.Reply (Refused code))
   stopped code C = tells C (λ T. emptied_at T (Stopped code)) (λ T. rmdir_at T (Stopped code)) t none (Refused code) (λ S good agrees. tt) (λ S good agrees. refl)
 
 other_part : (part : InodePart) (areas : List Area) → kind_of part ≢ kinds.Dir → in_part (node_part part) areas ≡ []
@@ -79,10 +80,10 @@ module _ (stamp dir : ℕ) (name : List ℕ) where
   inside T id = in_dir (get T.nodes id) (FirstRow (dir_prefix id) (raised (dir_prefix id)) ∷ [])
 
   module _ (t : Transaction) (none : t.writes ≡ []) where
-    pub asks_entry : (key : Key) → (key ≡ keys.Dent dir name) × IsUnread t.reads (keys.Dent dir name) → IsEndStep link.Rmdir stamp (AtParent dir name) t t (steps.Ask (asks.Get key))
+    pub asks_entry : (key : Key) → (key ≡ keys.Dent dir name) × IsUnread t.reads (keys.Dent dir name) → IsLinkEndStep link.Rmdir stamp (AtParent dir name) t t (steps.Ask (asks.Get key))
     asks_entry key unread C = names.asks_entry C outcome dir name inside t none key unread
 
-    pub no_entry : IsKeyRead t.reads (keys.Dent dir name) → ((S : TypedRows) → Agrees S t.reads → get S.dents (dir, name) ≡ None) → IsEndStep link.Rmdir stamp (AtParent dir name) t t (steps.Reply (Refused codes.NotFound))
+    pub no_entry : IsKeyRead t.reads (keys.Dent dir name) → ((S : TypedRows) → Agrees S t.reads → get S.dents (dir, name) ≡ None) → IsLinkEndStep link.Rmdir stamp (AtParent dir name) t t (steps.Reply (Refused codes.NotFound))
     no_entry read free C = names.no_entry C outcome dir name inside t none read free (Refused codes.NotFound) (λ S good agrees. rmdir_absent C S good stamp dir name (free S agrees))
 
   -- ---- of what the entry leads to
@@ -111,11 +112,11 @@ module _ (stamp dir : ℕ) (name : List ℕ) where
     all_read is_dir seen = read_behind C areas (λ T. first_of e.inode ∷ []) reads (behind_dir is_dir) (λ S good agrees. (seen, tt))
 
   module _ (t : Transaction) (none : t.writes ≡ []) (e : DentRow) (entry : IsEntryRead t.reads dir name e) where
-    pub at_other : e.kind ≢ kinds.Dir → IsEndStep link.Rmdir stamp (AtParent dir name) t t (steps.Reply (Refused codes.NotDir))
+    pub at_other : e.kind ≢ kinds.Dir → IsLinkEndStep link.Rmdir stamp (AtParent dir name) t t (steps.Reply (Refused codes.NotDir))
     at_other other C = tells C areas outcome t none (Refused codes.NotDir) (no_more C t.reads e entry other) (λ S good agrees. rmdir_other C S good stamp dir name e (entry.there S agrees) other)
 
     module _ (is_dir : e.kind ≡ kinds.Dir) where
-      pub asks_range : (ask : Ask) → AsksFirst (dir_prefix e.inode) (raised (dir_prefix e.inode)) t.reads.ranges ask → IsEndStep link.Rmdir stamp (AtParent dir name) t t (steps.Ask ask)
+      pub asks_range : (ask : Ask) → AsksFirst (dir_prefix e.inode) (raised (dir_prefix e.inode)) t.reads.ranges ask → IsLinkEndStep link.Rmdir stamp (AtParent dir name) t t (steps.Ask ask)
       asks_range ask asked C =
           subst (λ (x : Ask). HasDone C areas outcome t t (steps.Ask x)) (sym asked.1)
           (asks_for C areas outcome t none (asks.Range (dir_prefix e.inode) (raised (dir_prefix e.inode)) 1) (omega arith)
@@ -123,7 +124,7 @@ module _ (stamp dir : ℕ) (name : List ℕ) where
           (λ S good agrees. inl (refl, refl, refl, asked.0))))
 
       pub at_used : IsFirstRead t.reads (dir_prefix e.inode) (raised (dir_prefix e.inode)) → ((S : TypedRows) → Agrees S t.reads → (other : List ℕ) × (row : DentRow) × (get S.dents (e.inode, other) ≡ Some row))
-          → IsEndStep link.Rmdir stamp (AtParent dir name) t t (steps.Reply (Refused codes.NotEmpty))
+          → IsLinkEndStep link.Rmdir stamp (AtParent dir name) t t (steps.Reply (Refused codes.NotEmpty))
       at_used seen used C =
           tells C areas outcome t none (Refused codes.NotEmpty) (all_read C t.reads e entry is_dir seen)
           (λ S good agrees. let some = used S agrees in rmdir_used C S good stamp dir name e (entry.there S agrees) is_dir some.0 some.1 some.2)
@@ -132,7 +133,7 @@ module _ (stamp dir : ℕ) (name : List ℕ) where
 
       pub gone_done : IsFirstRead t.reads (dir_prefix e.inode) (raised (dir_prefix e.inode)) → ((S : TypedRows) → Agrees S t.reads → (other : List ℕ) → get S.dents (e.inode, other) ≡ None)
           → e.inode < 2 ^ 36 → dir < 2 ^ 36 → IsTrue (is_name name) → (u : Transaction) (asked : List Asked) → u ≡ record t { writes = put_writes (gone_puts dir name e.inode) } → asked ≡ []
-          → IsEndStep link.Rmdir stamp (AtParent dir name) t u (steps.Commit Done asked)
+          → IsLinkEndStep link.Rmdir stamp (AtParent dir name) t u (steps.Commit Done asked)
       gone_done seen empty small low named u asked after none_asked C =
           puts_done C areas outcome t u Done asked (gone_puts dir name e.inode) (all_read C t.reads e entry is_dir seen) are after done_fits none_asked makes
         where

@@ -13,10 +13,10 @@ use Rattle.op_link.specs.declared.task.LinkCall.{LinkCall}
 use Rattle.op_link.specs.declared.task.LinkCall.TheVariants as link
 
 -- a link as the last name is what gets a further entry
-abbrev pub end_of : LinkCall → WalkEnd
-end_of (link.Link to) = NoFollow
-end_of link.Unlink = Parent
-end_of link.Rmdir = Parent
+abbrev pub link_end : LinkCall → WalkEnd
+link_end (link.Link to) = NoFollow
+link_end link.Unlink = Parent
+link_end link.Rmdir = Parent
 
 -- the second path's words
 abbrev pub fault_of : LinkCall → Option Code
@@ -25,11 +25,11 @@ fault_of link.Unlink = None
 fault_of link.Rmdir = None
 
 -- the call, and its first place
-abbrev pub IsCallAt : Call → LinkCall → Place → Type 0
-IsCallAt (calls.Link from to) call place = (place ≡ from) × (call ≡ link.Link to)
-IsCallAt (calls.Unlink at) call place = (place ≡ at) × (call ≡ link.Unlink)
-IsCallAt (calls.Rmdir at) call place = (place ≡ at) × (call ≡ link.Rmdir)
-IsCallAt _ call place = ⊥
+abbrev pub IsLinkCallAt : Call → LinkCall → Place → Type 0
+IsLinkCallAt (calls.Link from to) call place = (place ≡ from) × (call ≡ link.Link to)
+IsLinkCallAt (calls.Unlink at) call place = (place ≡ at) × (call ≡ link.Unlink)
+IsLinkCallAt (calls.Rmdir at) call place = (place ≡ at) × (call ≡ link.Rmdir)
+IsLinkCallAt _ call place = ⊥
 
 -- only a second path's words take memory to be looked at
 abbrev pub HasPlace : LinkCall → Type 0

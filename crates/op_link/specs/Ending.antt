@@ -23,31 +23,33 @@ use Rattle.txn_task.specs.Transactions.{Transaction}
 use Rattle.txn_task.specs.Wanted.{IsKeyRead}
 use Rattle.txn_task.specs.declared.messages.OpStep.{OpStep}
 use Rattle.path_walk.specs.Directories.{IsDirRead, IsRowRead}
-use Rattle.path_walk.specs.Footprint.{name_at, way_to}
+use Rattle.path_walk.specs.Footprint.{free_name_at, way_to}
 use Rattle.path_walk.specs.Owed.{HasDone}
 use Rattle.path_walk.specs.Stages.{does, looks}
-use Rattle.op_link.specs.Link.{does_at, reads_at}
+use Rattle.op_link.specs.Link.{link_does_at, link_reads_at}
 use Rattle.op_link.specs.declared.task.LinkCall.{LinkCall}
 
 -- under whatever configuration it reads what the call reads there, and does what the call does there
-abbrev pub IsEndStep : LinkCall → ℕ → Walked → Transaction → Transaction → OpStep → Type 0
-IsEndStep call stamp walked before after s =
-    (C : Settings) → HasDone C (λ T. reads_at call T walked) (λ T. does_at call stamp T walked) before after s
+abbrev pub IsLinkEndStep : LinkCall → ℕ → Walked → Transaction → Transaction → OpStep → Type 0
+IsLinkEndStep call stamp walked before after s =
+    (C : Settings)
+    → HasDone C (λ T. link_reads_at call T walked) (λ T. link_does_at call stamp T walked) before after s
 
 -- ---- link's second way
 
 -- a node that is to get a further entry, where the way to the entry's place begins
-abbrev pub IsWayStep : Place → ℕ → ℕ → Transaction → Transaction → OpStep → Type 0
-IsWayStep to id stamp before after s =
+abbrev pub IsLinkWayStep : Place → ℕ → ℕ → Transaction → Transaction → OpStep → Type 0
+IsLinkWayStep to id stamp before after s =
     (C : Settings)
-    → HasDone C (looks (name_at (keys.Inode id)) (way_to to)) (does (λ T. link_to T stamp id) (way_to to))
+    → HasDone C (looks (free_name_at (keys.Inode id)) (way_to to))
+    (does (λ T. link_to T stamp id) (way_to to))
     before after s
 
 -- and where it ends
 abbrev pub IsJoinStep : ℕ → ℕ → Walked → Transaction → Transaction → OpStep → Type 0
 IsJoinStep id stamp walked before after s =
     (C : Settings)
-    → HasDone C (λ T. name_at (keys.Inode id) T walked) (λ T. link_to T stamp id walked) before after s
+    → HasDone C (λ T. free_name_at (keys.Inode id) T walked) (λ T. link_to T stamp id walked) before after s
 
 -- ---- what a way has come to
 

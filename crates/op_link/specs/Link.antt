@@ -22,23 +22,23 @@ IsLinkCall (calls.Rmdir place) = Unit {0}
 IsLinkCall _ = ⊥
 
 -- what the call does where its way ends; link has a second way from there
-abbrev pub does_at : LinkCall → ℕ → Tree → Walked → Effect
-does_at (link.Link to) stamp T walked = link_at T stamp walked (way_to to T).end
-does_at link.Unlink stamp T walked = unlink_at T stamp walked
-does_at link.Rmdir stamp T walked = rmdir_at T walked
+abbrev pub link_does_at : LinkCall → ℕ → Tree → Walked → Effect
+link_does_at (link.Link to) stamp T walked = link_at T stamp walked (way_to to T).end
+link_does_at link.Unlink stamp T walked = unlink_at T stamp walked
+link_does_at link.Rmdir stamp T walked = rmdir_at T walked
 
 -- what it reads there
-abbrev pub reads_at : LinkCall → Tree → Walked → List Area
-reads_at (link.Link to) T = joined_at T to
-reads_at link.Unlink T = unlinked_at T
-reads_at link.Rmdir T = emptied_at T
+abbrev pub link_reads_at : LinkCall → Tree → Walked → List Area
+link_reads_at (link.Link to) T = joined_at T to
+link_reads_at link.Unlink T = unlinked_at T
+link_reads_at link.Rmdir T = emptied_at T
 
-abbrev pub effect_of : LinkTask → Tree → Effect
-effect_of task = does (does_at task.call task.stamp) (trip_at task.stage)
+abbrev pub link_effect : LinkTask → Tree → Effect
+link_effect task = does (link_does_at task.call task.stamp) (trip_at task.stage)
 
-abbrev pub areas_of : LinkTask → Tree → List Area
-areas_of task = looks (reads_at task.call) (trip_at task.stage)
+abbrev pub link_areas : LinkTask → Tree → List Area
+link_areas task = looks (link_reads_at task.call) (trip_at task.stage)
 
 -- a time that a row may have
-abbrev pub IsReady : LinkTask → Type 0
-IsReady task = IsTrue (time.fits task.stamp)
+abbrev pub IsLinkReady : LinkTask → Type 0
+IsLinkReady task = IsTrue (time.fits task.stamp)

@@ -1,7 +1,7 @@
 ghost use Rattle.std.specs.Prelude.{◌≡◌, [], IfOk, IsTrue};
 ghost use Rattle.byte_fields.specs.Fields.{time};
 ghost use Rattle.tree_model.specs.declared.walk.Walked.TheVariants.{At};
-ghost use Rattle.op_link.specs.Ending.{HasSource, IsEndStep, IsSource, IsWayStep};
+ghost use Rattle.op_link.specs.Ending.{HasSource, IsLinkEndStep, IsSource, IsLinkWayStep};
 ghost use Rattle.op_link.specs.declared.task.LinkCall.TheVariants as link;
 
 use crate::join::join_at;
@@ -22,7 +22,7 @@ pub(crate) fn link_at(
     requires stamp { IsTrue (time.fits stamp) }
     requires writes { txn.old.writes ≡ [] }
     requires source { HasSource txn.old.reads walked }
-    ensures { IfOk result (IsEndStep (link.Link to.now) stamp walked txn.old txn.new) }
+    ensures { IfOk result (IsLinkEndStep (link.Link to.now) stamp walked txn.old txn.new) }
 {
     match walked {
         Walked::At(id, kind) => link_node(alloc, txn, stamp, to, id, kind),
@@ -44,7 +44,7 @@ fn link_node(
     requires stamp { IsTrue (time.fits stamp) }
     requires writes { txn.old.writes ≡ [] }
     requires source { HasSource txn.old.reads (At id kind) }
-    ensures { IfOk result (IsEndStep (link.Link to.now) stamp (At id kind) txn.old txn.new) }
+    ensures { IfOk result (IsLinkEndStep (link.Link to.now) stamp (At id kind) txn.old txn.new) }
 {
     match kind {
         Kind::Dir => Ok(OpStep::Reply(Reply::Refused(Code::IsDir))),
@@ -64,7 +64,7 @@ fn walk_to(
     requires stamp { IsTrue (time.fits stamp) }
     requires writes { txn.old.writes ≡ [] }
     requires source { IsSource txn.old.reads id }
-    ensures { IfOk result (IsWayStep to.now id stamp txn.old txn.new) }
+    ensures { IfOk result (IsLinkWayStep to.now id stamp txn.old txn.new) }
 {
     let mut stage = Stage::new(alloc, to, WalkEnd::Parent, None)?;
     match stage.next(alloc, txn)? {

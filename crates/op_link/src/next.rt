@@ -2,8 +2,8 @@ ghost use Rattle.std.specs.Prelude.{◌≡◌, [], true, false, IfOk, OnOk, OnEr
 ghost use Rattle.path_walk.specs.Owed.{HasStepped};
 ghost use Rattle.path_walk.specs.Stages.{trip_at};
 ghost use Rattle.path_walk.specs.Walks.{HasEnd};
-ghost use Rattle.op_link.specs.Ending.{IsEndStep};
-ghost use Rattle.op_link.specs.Link.{IsReady, areas_of, effect_of};
+ghost use Rattle.op_link.specs.Ending.{IsLinkEndStep};
+ghost use Rattle.op_link.specs.Link.{IsLinkReady, link_areas, link_effect};
 
 use crate::link::link_at;
 use crate::rmdir::rmdir_at;
@@ -20,13 +20,13 @@ impl LinkTask {
     ///
     /// Once memory ran out the answer is want of memory from then on.
     pub fn next(&mut self, alloc: Global, answer: Answer, txn: &mut Txn) -> Result<OpStep, Memory>
-        requires ready { IsReady self.old }
+        requires ready { IsLinkReady self.old }
         requires writes { txn.old.writes ≡ [] }
         ensures config { OnOk result (self.new.config ≡ self.old.config) }
-        ensures ready { OnOk result (IsReady self.new) }
+        ensures ready { OnOk result (IsLinkReady self.new) }
         ensures step { IfOk result
-            (HasStepped self.old.config (areas_of self.old) (areas_of self.new) (effect_of self.old)
-            (effect_of self.new) txn.old txn.new) }
+            (HasStepped self.old.config (link_areas self.old) (link_areas self.new) (link_effect self.old)
+            (link_effect self.new) txn.old txn.new) }
         ensures alive { OnOk result ((self.old.failed ≡ false) × (self.new.failed ≡ false)) }
         ensures err { OnErr result (self.new.failed ≡ true) }
     {
@@ -41,13 +41,13 @@ impl LinkTask {
 
     /// The walk of the first place, and what the call does where it ends.
     fn go_on(&mut self, alloc: Global, txn: &mut Txn) -> Result<OpStep, Memory>
-        requires ready { IsReady self.old }
+        requires ready { IsLinkReady self.old }
         requires writes { txn.old.writes ≡ [] }
         ensures config { OnOk result (self.new.config ≡ self.old.config) }
-        ensures ready { OnOk result (IsReady self.new) }
+        ensures ready { OnOk result (IsLinkReady self.new) }
         ensures step { IfOk result
-            (HasStepped self.old.config (areas_of self.old) (areas_of self.new) (effect_of self.old)
-            (effect_of self.new) txn.old txn.new) }
+            (HasStepped self.old.config (link_areas self.old) (link_areas self.new) (link_effect self.old)
+            (link_effect self.new) txn.old txn.new) }
     {
         match self.stage.next(alloc, txn)? {
             Reached::Ask(ask) => Ok(OpStep::Ask(ask)),
@@ -60,10 +60,10 @@ impl LinkTask {
 
     /// What the call does where its first walk ends.
     fn at_end(&self, alloc: Global, txn: &mut Txn, walked: Walked) -> Result<OpStep, Memory>
-        requires ready { IsReady self.now }
+        requires ready { IsLinkReady self.now }
         requires writes { txn.old.writes ≡ [] }
         requires end { HasEnd (trip_at self.now.stage) txn.old.reads walked }
-        ensures { IfOk result (IsEndStep self.now.call self.now.stamp walked txn.old txn.new) }
+        ensures { IfOk result (IsLinkEndStep self.now.call self.now.stamp walked txn.old txn.new) }
     {
         match &self.call {
             LinkCall::Link(to) => link_at(alloc, txn, self.stamp, to, walked),

@@ -2,7 +2,7 @@ ghost use Rattle.std.specs.Prelude.{◌≡◌, ℕ, [], IfOk};
 ghost use Rattle.fs_base.specs.declared.kind.Kind.TheVariants as kinds;
 ghost use Rattle.tree_model.specs.declared.walk.Walked.TheVariants.{AtParent};
 ghost use Rattle.path_walk.specs.Directories.{IsEntryRead};
-ghost use Rattle.op_link.specs.Ending.{IsEndStep};
+ghost use Rattle.op_link.specs.Ending.{IsLinkEndStep};
 ghost use Rattle.op_link.specs.declared.task.LinkCall.TheVariants as link;
 
 use fs_base::{Code, InodeId, Items, Kind, Memory, Name, Reply};
@@ -15,7 +15,7 @@ use txn_task::{Ask, OpStep, Txn, Want, WantFirst, want_dent, want_range};
 /// What rmdir does where its walk ends.
 pub(crate) fn rmdir_at(alloc: Global, txn: &mut Txn, walked: Walked) -> Result<OpStep, Memory>
     requires writes { txn.old.writes ≡ [] }
-    ensures { IfOk result (λ s. (stamp : ℕ) → IsEndStep link.Rmdir stamp walked txn.old txn.new s) }
+    ensures { IfOk result (λ s. (stamp : ℕ) → IsLinkEndStep link.Rmdir stamp walked txn.old txn.new s) }
 {
     match walked {
         Walked::At(_, _) => Ok(OpStep::Reply(Reply::Refused(Code::IsRoot))),
@@ -31,7 +31,7 @@ pub(crate) fn rmdir_at(alloc: Global, txn: &mut Txn, walked: Walked) -> Result<O
 fn rmdir(alloc: Global, txn: &mut Txn, dir: InodeId, name: &Name) -> Result<OpStep, Memory>
     requires writes { txn.old.writes ≡ [] }
     ensures { IfOk result
-        (λ s. (stamp : ℕ) → IsEndStep link.Rmdir stamp (AtParent dir name.now) txn.old txn.new s) }
+        (λ s. (stamp : ℕ) → IsLinkEndStep link.Rmdir stamp (AtParent dir name.now) txn.old txn.new s) }
 {
     let entry = match want_dent(alloc, txn, dir, name)? {
         Want::Ask(key) => return Ok(OpStep::Ask(Ask::Get(key))),
@@ -57,7 +57,7 @@ fn remove_dir(
     requires entry { IsEntryRead txn.old.reads dir name.now entry }
     requires is_dir { entry.kind ≡ kinds.Dir }
     ensures { IfOk result
-        (λ s. (stamp : ℕ) → IsEndStep link.Rmdir stamp (AtParent dir name.now) txn.old txn.new s) }
+        (λ s. (stamp : ℕ) → IsLinkEndStep link.Rmdir stamp (AtParent dir name.now) txn.old txn.new s) }
 {
     match want_range(alloc, txn, entry.inode)? {
         WantFirst::Ask(ask) => Ok(OpStep::Ask(ask)),

@@ -3,8 +3,8 @@ ghost use Rattle.row_records.specs.Calls.{is_call};
 ghost use Rattle.tree_model.specs.Calls.{effect};
 ghost use Rattle.tree_model.specs.Tree.{Tree};
 ghost use Rattle.path_walk.specs.Footprint.{call_areas};
-ghost use Rattle.op_link.specs.Beginning.{HasPlace, IsCallAt, end_of, fault_of};
-ghost use Rattle.op_link.specs.Link.{IsLinkCall, IsReady, areas_of, effect_of};
+ghost use Rattle.op_link.specs.Beginning.{HasPlace, IsLinkCallAt, link_end, fault_of};
+ghost use Rattle.op_link.specs.Link.{IsLinkCall, IsLinkReady, link_areas, link_effect};
 
 use fs_base::{Call, Code, Config, Memory, Place, Request};
 use path_walk::Stage;
@@ -34,7 +34,7 @@ pub struct LinkTask {
 
 /// Where the walk of a call's first place ends.
 fn end_of(call: &LinkCall) -> WalkEnd
-    ensures { result ≡ end_of call.now }
+    ensures { result ≡ link_end call.now }
 {
     match call {
         LinkCall::Link(_) => WalkEnd::NoFollow,
@@ -66,11 +66,11 @@ impl LinkTask {
         requires numbers { IsTrue (is_call (request.now.stamp, request.now.call)) }
         requires call { IsLinkCall request.now.call }
         ensures config { IfOk result (λ task. task.config ≡ config.now) }
-        ensures effect { IfOk result (λ task. (T : Tree) → effect_of task T ≡ effect config.now T request.now) }
+        ensures effect { IfOk result (λ task. (T : Tree) → link_effect task T ≡ effect config.now T request.now) }
         ensures areas { IfOk result
             (λ task. (T : Tree)
-            → areas_of task T ≡ call_areas config.now T request.now request.now.call) }
-        ensures ready { IfOk result IsReady }
+            → link_areas task T ≡ call_areas config.now T request.now request.now.call) }
+        ensures ready { IfOk result IsLinkReady }
     {
         match &request.call {
             Call::Link { from, to } => {
@@ -92,13 +92,13 @@ impl LinkTask {
         call: LinkCall,
     ) -> Result<LinkTask, Memory>
         requires numbers { IsTrue (is_call (request.now.stamp, request.now.call)) }
-        requires call { IsCallAt request.now.call call place.now }
+        requires call { IsLinkCallAt request.now.call call place.now }
         ensures config { IfOk result (λ task. task.config ≡ config.now) }
-        ensures effect { IfOk result (λ task. (T : Tree) → effect_of task T ≡ effect config.now T request.now) }
+        ensures effect { IfOk result (λ task. (T : Tree) → link_effect task T ≡ effect config.now T request.now) }
         ensures areas { IfOk result
             (λ task. (T : Tree)
-            → areas_of task T ≡ call_areas config.now T request.now request.now.call) }
-        ensures ready { IfOk result IsReady }
+            → link_areas task T ≡ call_areas config.now T request.now request.now.call) }
+        ensures ready { IfOk result IsLinkReady }
     {
         let fault = fault_of(alloc, &call)?;
         let stage = Stage::new(alloc, place, end_of(&call), fault)?;

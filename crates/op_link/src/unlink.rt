@@ -3,7 +3,7 @@ ghost use Rattle.byte_fields.specs.Fields.{time};
 ghost use Rattle.fs_base.specs.declared.kind.Kind.TheVariants as kinds;
 ghost use Rattle.tree_model.specs.declared.walk.Walked.TheVariants.{AtParent};
 ghost use Rattle.path_walk.specs.Directories.{IsEntryRead};
-ghost use Rattle.op_link.specs.Ending.{IsEndStep};
+ghost use Rattle.op_link.specs.Ending.{IsLinkEndStep};
 ghost use Rattle.op_link.specs.declared.task.LinkCall.TheVariants as link;
 
 use fs_base::{Code, InodeId, Items, Kind, Memory, Name, Reply};
@@ -22,7 +22,7 @@ pub(crate) fn unlink_at(
 ) -> Result<OpStep, Memory>
     requires stamp { IsTrue (time.fits stamp) }
     requires writes { txn.old.writes ≡ [] }
-    ensures { IfOk result (IsEndStep link.Unlink stamp walked txn.old txn.new) }
+    ensures { IfOk result (IsLinkEndStep link.Unlink stamp walked txn.old txn.new) }
 {
     match walked {
         Walked::At(_, _) => Ok(OpStep::Reply(Reply::Refused(Code::IsRoot))),
@@ -45,7 +45,7 @@ fn unlink(
 ) -> Result<OpStep, Memory>
     requires stamp { IsTrue (time.fits stamp) }
     requires writes { txn.old.writes ≡ [] }
-    ensures { IfOk result (IsEndStep link.Unlink stamp (AtParent dir name.now) txn.old txn.new) }
+    ensures { IfOk result (IsLinkEndStep link.Unlink stamp (AtParent dir name.now) txn.old txn.new) }
 {
     let entry = match want_dent(alloc, txn, dir, name)? {
         Want::Ask(key) => return Ok(OpStep::Ask(Ask::Get(key))),
@@ -72,7 +72,7 @@ fn leave(
     requires writes { txn.old.writes ≡ [] }
     requires entry { IsEntryRead txn.old.reads dir name.now entry }
     requires no_dir { entry.kind ≢ kinds.Dir }
-    ensures { IfOk result (IsEndStep link.Unlink stamp (AtParent dir name.now) txn.old txn.new) }
+    ensures { IfOk result (IsLinkEndStep link.Unlink stamp (AtParent dir name.now) txn.old txn.new) }
 {
     match want_inode(alloc, txn, entry.inode)? {
         Want::Ask(key) => Ok(OpStep::Ask(Ask::Get(key))),

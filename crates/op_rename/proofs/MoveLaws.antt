@@ -60,7 +60,8 @@ use Rattle.path_walk.proofs.UnlinkLaws.{unlinked_are, unlinked_dents, unlinked_i
 use Rattle.op_rename.specs.Climb.{IsClimbStep}
 use Rattle.op_rename.specs.Ending.{IsMoveStep}
 use Rattle.op_rename.specs.Puts.{cleared_puts, dir_puts, moved_puts}
-use Rattle.op_rename.specs.Replace.{AreKnown, GoesBeside, IsCleared, IsInRange, IsOther, IsSame}
+use Rattle.op_rename.specs.Replace.{AreEntriesRead, GoesBeside, IsPlaceCleared, IsInRange, IsOtherNode}
+use Rattle.op_rename.specs.Replace.{IsSameNode}
 use Rattle.op_rename.specs.declared.climb.Climb.TheVariants as climbs
 use Rattle.op_rename.specs.declared.place.Spots.{Spots}
 use Rattle.op_rename.proofs.MovePuts.{dir_are, made_dir, made_moved, moved_are, row_parent, under_leaf}
@@ -101,29 +102,29 @@ module _ (spots : Spots) (stamp : ℕ) (e : DentRow) (taken : Option DentRow) wh
 
   -- ---- both entries lead to one node
 
-  same_areas : (T : Tree) (o : Option DentRow) → IsSame e o → moved_at T e.kind e.inode spots.to.dir (option_map (λ (x : DentRow). x.inode) o) ≡ []
+  same_areas : (T : Tree) (o : Option DentRow) → IsSameNode e o → moved_at T e.kind e.inode spots.to.dir (option_map (λ (x : DentRow). x.inode) o) ≡ []
   same_areas T None same = absurd same
   same_areas T (Some old) same = ap (λ b. cond b [] (kind_moved T e.kind e.inode spots.to.dir (Some old.inode))) (eq-eqb old.inode e.inode same)
 
-  pub same_done : (t : Transaction) → t.writes ≡ [] → AreKnown t.reads spots e taken → IsSame e taken → (asked : List Asked) → asked ≡ [] → IsMoveStep spots stamp e taken t t (steps.Commit Done asked)
+  pub same_done : (t : Transaction) → t.writes ≡ [] → AreEntriesRead t.reads spots e taken → IsSameNode e taken → (asked : List Asked) → asked ≡ [] → IsMoveStep spots stamp e taken t t (steps.Commit Done asked)
   same_done t none known same asked empty C =
       puts_done C areas outcome t t Done asked []
       (λ S good agrees. subst (AreRead t.reads) (sym (same_areas (tree_of S) taken same)) tt)
       tt (λ i. record t { writes = none i }) done_fits empty
       (λ S good agrees. (good, ap (at_length 0) (by_taken S good agrees taken ((known.taken_read).there S agrees) same)))
     where
-      by_taken : (S : TypedRows) → IsWellFormed C S → Agrees S t.reads → (o : Option DentRow) → get S.dents to ≡ o → IsSame e o → outcome (tree_of S) ≡ Makes (tree_of S) Done
+      by_taken : (S : TypedRows) → IsWellFormed C S → Agrees S t.reads → (o : Option DentRow) → get S.dents to ≡ o → IsSameNode e o → outcome (tree_of S) ≡ Makes (tree_of S) Done
       by_taken S good agrees None at same = absurd same
       by_taken S good agrees (Some old) at same =
           rename_same C S good stamp from to e ((known.entry_read).there S agrees) ((known.dir).row, (known.dir).there S agrees, (known.dir).is_dir) old at same
 
   -- ---- another node stands there, or none
 
-  module _ (reads : ReadSet) (known : AreKnown reads spots e taken) (other : IsOther e taken) where
+  module _ (reads : ReadSet) (known : AreEntriesRead reads spots e taken) (other : IsOtherNode e taken) where
     other_areas : (T : Tree) → areas T ≡ kind_moved T e.kind e.inode spots.to.dir old_id
     other_areas T = by taken other
       where
-        by : (o : Option DentRow) → IsOther e o → moved_at T e.kind e.inode spots.to.dir (option_map (λ (x : DentRow). x.inode) o) ≡ kind_moved T e.kind e.inode spots.to.dir (option_map (λ (x : DentRow). x.inode) o)
+        by : (o : Option DentRow) → IsOtherNode e o → moved_at T e.kind e.inode spots.to.dir (option_map (λ (x : DentRow). x.inode) o) ≡ kind_moved T e.kind e.inode spots.to.dir (option_map (λ (x : DentRow). x.inode) o)
         by None h = refl
         by (Some old) h = ap (λ b. cond b [] (kind_moved T e.kind e.inode spots.to.dir (Some old.inode))) (ne_eqb old.inode e.inode h)
 
@@ -143,7 +144,7 @@ module _ (spots : Spots) (stamp : ℕ) (e : DentRow) (taken : Option DentRow) wh
       dir_areas : (T : Tree) → areas T ≡ then_moved T (is_below T e.inode spots.to.dir)
       dir_areas T = other_areas T ∙ ap (λ (k : Kind). kind_moved T k e.inode spots.to.dir old_id) is_dir
 
-  module _ (t : Transaction) (none : t.writes ≡ []) (known : AreKnown t.reads spots e taken) (other : IsOther e taken) (is_dir : e.kind ≡ kinds.Dir) where
+  module _ (t : Transaction) (none : t.writes ≡ []) (known : AreEntriesRead t.reads spots e taken) (other : IsOtherNode e taken) (is_dir : e.kind ≡ kinds.Dir) where
     pub asks_up : (key : Key) → IsClimbStep (climbs.Ask key) t.reads e.inode spots.to.dir → IsMoveStep spots stamp e taken t t (steps.Ask (asks.Get key))
     asks_up key step C =
         asks_for C areas outcome t none (asks.Get key) step.0
@@ -163,13 +164,13 @@ module _ (spots : Spots) (stamp : ℕ) (e : DentRow) (taken : Option DentRow) wh
         told : (S : TypedRows) → IsWellFormed C S → Agrees S t.reads → outcome (tree_of S) ≡ refuses codes.IntoItself
         told S good agrees = by taken ((known.taken_read).there S agrees) other
           where
-            by : (o : Option DentRow) → get S.dents to ≡ o → IsOther e o → outcome (tree_of S) ≡ refuses codes.IntoItself
+            by : (o : Option DentRow) → get S.dents to ≡ o → IsOtherNode e o → outcome (tree_of S) ≡ refuses codes.IntoItself
             by None free h = rename_into_free C S good stamp from to e (entry_at t.reads known other S agrees) (dir_at t.reads known other S agrees) is_dir free ((step C).1 S good agrees)
             by (Some old) at h = rename_into_taken C S good stamp from to e (entry_at t.reads known other S agrees) (dir_at t.reads known other S agrees) old at is_dir h ((step C).1 S good agrees)
 
   -- ---- a directory that doesn't come below itself
 
-  module _ (reads : ReadSet) (known : AreKnown reads spots e taken) (other : IsOther e taken) (goes : GoesBeside reads spots e) (C : Settings) where
+  module _ (reads : ReadSet) (known : AreEntriesRead reads spots e taken) (other : IsOtherNode e taken) (goes : GoesBeside reads spots e) (C : Settings) where
     around : (S : TypedRows) → IsWellFormed C S → Agrees S reads → e.kind ≡ kinds.Dir → (path : List ℕ) × IsPathAround S e.inode spots.to.dir path
     around S good agrees k = goes.beside C S good agrees
 
@@ -195,7 +196,7 @@ module _ (spots : Spots) (stamp : ℕ) (e old : DentRow) where
   abbrev inside : Tree → List Area
   inside T = first_of old.inode ∷ cond (is_empty_dir T old.inode) (OneKey (keys.Inode e.inode) ∷ []) []
 
-  module _ (reads : ReadSet) (known : AreKnown reads spots e (Some old)) (C : Settings) where
+  module _ (reads : ReadSet) (known : AreEntriesRead reads spots e (Some old)) (C : Settings) where
     old_kind : (S : TypedRows) → IsWellFormed C S → Agrees S reads → HasKind S old.inode old.kind
     old_kind S good agrees = (good.entry spots.to.dir spots.to.name old ((known.taken_read).there S agrees)).target
 
@@ -212,7 +213,7 @@ module _ (spots : Spots) (stamp : ℕ) (e old : DentRow) where
           read_behind C (areas spots stamp e (Some old)) (λ T. dir_moved T e.inode (Some old.inode)) reads (behind_way spots stamp e (Some old) reads known other goes C)
           (λ S good agrees. subst (AreRead reads) (sym (no_areas S old.inode (inside (tree_of S)) (λ has. leaf (same_kind S old.inode old.kind kinds.Dir (old_kind S good agrees) has)))) tt)
 
-  module _ (t : Transaction) (none : t.writes ≡ []) (known : AreKnown t.reads spots e (Some old)) (other : old.inode ≢ e.inode) (goes : GoesBeside t.reads spots e) where
+  module _ (t : Transaction) (none : t.writes ≡ []) (known : AreEntriesRead t.reads spots e (Some old)) (other : old.inode ≢ e.inode) (goes : GoesBeside t.reads spots e) where
     pub at_leaf : old.kind ≢ kinds.Dir → IsMoveStep spots stamp e (Some old) t t (steps.Reply (Refused codes.NotDir))
     at_leaf leaf C =
         tells C (areas spots stamp e (Some old)) (outcome spots stamp e (Some old)) t none (Refused codes.NotDir) (leaf_read t.reads known C other goes leaf)
@@ -247,13 +248,13 @@ module _ (spots : Spots) (stamp : ℕ) (e : DentRow) (reads : ReadSet) (goes : G
   abbrev own : Tree → List Area
   own T = OneKey (keys.Inode e.inode) ∷ []
 
-  behind_cleared : (o : Option DentRow) → AreKnown reads spots e o → IsOther e o → IsCleared reads o → KeepsAreas C (areas spots stamp e o) own reads
+  behind_cleared : (o : Option DentRow) → AreEntriesRead reads spots e o → IsOtherNode e o → IsPlaceCleared reads o → KeepsAreas C (areas spots stamp e o) own reads
   behind_cleared None known other cleared = behind_way spots stamp e None reads known other goes C
   behind_cleared (Some old) known other cleared =
       areas_on C (areas spots stamp e (Some old)) (inside spots stamp e old) own reads (behind_range spots stamp e old reads known C other goes cleared.0)
       (λ S good agrees. (first_of old.inode ∷ [], (cleared.1, tt), ap (λ b. first_of old.inode ∷ cond b (OneKey (keys.Inode e.inode) ∷ []) []) (empty_told S old.inode (cleared.2 S agrees))))
 
-  cleared_are : (o : Option DentRow) → AreKnown reads spots e o → IsInRange o → spots.to.dir < 2 ^ 36 → IsTrue (is_name spots.to.name) → ArePuts C reads (cleared_puts spots o)
+  cleared_are : (o : Option DentRow) → AreEntriesRead reads spots e o → IsInRange o → spots.to.dir < 2 ^ 36 → IsTrue (is_name spots.to.name) → ArePuts C reads (cleared_puts spots o)
   cleared_are None known small low named = tt
   cleared_are (Some old) known small low named = (
     node_taken C reads old.inode small (λ S good agrees. let is = old_kind spots stamp e old reads known C S good agrees in (is.0, is.1)),
@@ -274,7 +275,7 @@ module _ (spots : Spots) (stamp : ℕ) (e : DentRow) (reads : ReadSet) (goes : G
         (ap (λ (r : InodeRow). with_move (with_puts S before) spots.from.dir spots.from.name e r spots.to.dir spots.to.name) (same_some (there).0 row (there).1 is) ∙ sym (made_dir S spots e row before at parent))
         made
 
-    carries : (o : Option DentRow) → AreKnown reads spots e o → IsOther e o → IsCleared reads o → IsCarried (with_puts S (dir_puts spots e row (cleared_puts spots o)))
+    carries : (o : Option DentRow) → AreEntriesRead reads spots e o → IsOtherNode e o → IsPlaceCleared reads o → IsCarried (with_puts S (dir_puts spots e row (cleared_puts spots o)))
     carries None known other cleared =
         carried [] is
         (rename_free C S good stamp (spots.from.dir, spots.from.name) (spots.to.dir, spots.to.name) e entry (dir_at spots stamp e None reads known other S agrees)
@@ -284,7 +285,7 @@ module _ (spots : Spots) (stamp : ℕ) (e : DentRow) (reads : ReadSet) (goes : G
         (rename_empty C S good stamp (spots.from.dir, spots.from.name) (spots.to.dir, spots.to.name) e entry (dir_at spots stamp e (Some old) reads known other S agrees)
         (around spots stamp e (Some old) reads known other goes C S good agrees) old ((known.taken_read).there S agrees) other goes.is_dir cleared.0 (cleared.2 S agrees))
 
-module _ (spots : Spots) (stamp : ℕ) (e : DentRow) (taken : Option DentRow) (t : Transaction) (none : t.writes ≡ []) (known : AreKnown t.reads spots e taken) (other : IsOther e taken) (goes : GoesBeside t.reads spots e) (cleared : IsCleared t.reads taken) where
+module _ (spots : Spots) (stamp : ℕ) (e : DentRow) (taken : Option DentRow) (t : Transaction) (none : t.writes ≡ []) (known : AreEntriesRead t.reads spots e taken) (other : IsOtherNode e taken) (goes : GoesBeside t.reads spots e) (cleared : IsPlaceCleared t.reads taken) where
   pub asks_row : (key : Key) → (key ≡ keys.Inode e.inode) × IsUnread t.reads (keys.Inode e.inode) → IsMoveStep spots stamp e taken t t (steps.Ask (asks.Get key))
   asks_row key unread C =
       asks_key C (areas spots stamp e taken) (outcome spots stamp e taken) t none key (keys.Inode e.inode) (λ T. []) unread (behind_cleared spots stamp e t.reads goes C taken known other cleared)
@@ -318,7 +319,7 @@ leaf_moved T kinds.File id dir taken no_dir = refl
 leaf_moved T kinds.Link id dir taken no_dir = refl
 
 module _ (spots : Spots) (stamp : ℕ) (e : DentRow) (no_dir : e.kind ≢ kinds.Dir) where
-  leaf_areas : (reads : ReadSet) (o : Option DentRow) → AreKnown reads spots e o → IsOther e o → (T : Tree) → areas spots stamp e o T ≡ other_moved T (option_map (λ (x : DentRow). x.inode) o)
+  leaf_areas : (reads : ReadSet) (o : Option DentRow) → AreEntriesRead reads spots e o → IsOtherNode e o → (T : Tree) → areas spots stamp e o T ≡ other_moved T (option_map (λ (x : DentRow). x.inode) o)
   leaf_areas reads o known other T = other_areas spots stamp e o reads known other T ∙ leaf_moved T e.kind e.inode spots.to.dir (option_map (λ (x : DentRow). x.inode) o) no_dir
 
   module _ (C : Settings) (S : TypedRows) (good : IsWellFormed C S) (entry : get S.dents (spots.from.dir, spots.from.name) ≡ Some e) (before : List (Key × Option Value)) where
@@ -336,7 +337,7 @@ module _ (spots : Spots) (stamp : ℕ) (e : DentRow) (no_dir : e.kind ≢ kinds.
         subst IsLeafMoved (sym (made_moved S spots e (node).0 before (at ∙ ap (λ (p : InodePart). Some (record (node).0 { part = p })) (sym same)))) made
 
   module _ (t : Transaction) (from_low : spots.from.dir < 2 ^ 36) (from_named : IsTrue (is_name spots.from.name)) (small : e.inode < 2 ^ 36) (low : spots.to.dir < 2 ^ 36) (named : IsTrue (is_name spots.to.name)) (u : Transaction) (asked : List Asked) (empty : asked ≡ []) where
-    pub free_done : AreKnown t.reads spots e None → u ≡ record t { writes = put_writes (moved_puts spots e []) } → IsMoveStep spots stamp e None t u (steps.Commit Done asked)
+    pub free_done : AreEntriesRead t.reads spots e None → u ≡ record t { writes = put_writes (moved_puts spots e []) } → IsMoveStep spots stamp e None t u (steps.Commit Done asked)
     free_done known after C =
         puts_done C (areas spots stamp e None) (outcome spots stamp e None) t u Done asked (moved_puts spots e [])
         (λ S good agrees. subst (AreRead t.reads) (sym (leaf_areas t.reads None known tt (tree_of S))) tt)
@@ -351,7 +352,7 @@ module _ (spots : Spots) (stamp : ℕ) (e : DentRow) (no_dir : e.kind ≢ kinds.
   -- ---- over another one
 
   module _ (old : DentRow) (other : old.inode ≢ e.inode) where
-    module _ (reads : ReadSet) (known : AreKnown reads spots e (Some old)) (C : Settings) where
+    module _ (reads : ReadSet) (known : AreEntriesRead reads spots e (Some old)) (C : Settings) where
       old_areas : (wanted : List Area) → ((part : InodePart) → kind_of part ≡ old.kind → beside_part (node_part part) (OneKey (keys.Inode old.inode) ∷ []) ≡ wanted)
           → (S : TypedRows) → IsWellFormed C S → Agrees S reads → areas spots stamp e (Some old) (tree_of S) ≡ wanted
       old_areas wanted by S good agrees =
@@ -363,7 +364,7 @@ module _ (spots : Spots) (stamp : ℕ) (e : DentRow) (no_dir : e.kind ≢ kinds.
       behind_old : old.kind ≢ kinds.Dir → KeepsAreas C (areas spots stamp e (Some old)) (λ T. OneKey (keys.Inode old.inode) ∷ []) reads
       behind_old leaf S good agrees = ([], tt, old_areas (OneKey (keys.Inode old.inode) ∷ []) (λ part k. beside_leaf part _ (λ d. leaf (sym k ∙ d))) S good agrees)
 
-    module _ (t : Transaction) (known : AreKnown t.reads spots e (Some old)) where
+    module _ (t : Transaction) (known : AreEntriesRead t.reads spots e (Some old)) where
       pub at_dir : t.writes ≡ [] → old.kind ≡ kinds.Dir → IsMoveStep spots stamp e (Some old) t t (steps.Reply (Refused codes.IsDir))
       at_dir none is_dir C =
           tells C (areas spots stamp e (Some old)) (outcome spots stamp e (Some old)) t none (Refused codes.IsDir)

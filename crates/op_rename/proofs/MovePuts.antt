@@ -35,7 +35,7 @@ use Rattle.path_walk.specs.Directories.{IsEntryRead, IsNameRead, IsRowRead}
 use Rattle.path_walk.specs.Puts.{ArePuts, IsPut, put_writes, with_puts}
 use Rattle.path_walk.proofs.RowPutLaws.{entry_taken, row_fits}
 use Rattle.op_rename.specs.Puts.{PutsMore, dir_puts, moved_puts}
-use Rattle.op_rename.specs.Replace.{IsOther}
+use Rattle.op_rename.specs.Replace.{IsOtherNode}
 use Rattle.op_rename.specs.declared.place.Spots.{Spots}
 
 -- ---- one after another
@@ -110,12 +110,12 @@ parent_in _ = None
 
 module _ (C : Settings) (reads : ReadSet) (spots : Spots) (e : DentRow) where
   -- another entry stood there, or none
-  stood : (o : Option DentRow) → IsOther e o → option_map DentValue o ≢ Some (DentValue e)
+  stood : (o : Option DentRow) → IsOtherNode e o → option_map DentValue o ≢ Some (DentValue e)
   stood None other same = absurd (cc)
   stood (Some old) other same = other (ap (inode_in e.inode) same)
 
   module _ (entry : IsEntryRead reads spots.from.dir spots.from.name e) (from_low : spots.from.dir < 2 ^ 36) (from_named : IsTrue (is_name spots.from.name)) (low : spots.to.dir < 2 ^ 36) (named : IsTrue (is_name spots.to.name)) (small : e.inode < 2 ^ 36) where
-    pub moved_are : (taken : Option DentRow) → IsNameRead reads spots.to.dir spots.to.name taken → IsOther e taken → (before : List (Key × Option Value)) → ArePuts C reads before → ArePuts C reads (moved_puts spots e before)
+    pub moved_are : (taken : Option DentRow) → IsNameRead reads spots.to.dir spots.to.name taken → IsOtherNode e taken → (before : List (Key × Option Value)) → ArePuts C reads before → ArePuts C reads (moved_puts spots e before)
     moved_are taken read other before are = (
       record {
         valid = (low, named);

@@ -37,36 +37,36 @@ use Rattle.path_walk.specs.Owed.{KeepsAreas}
 use Rattle.path_walk.specs.Stages.{does, looks}
 use Rattle.path_walk.proofs.NameLaws as names
 use Rattle.path_walk.proofs.StepLaws.{areas_on, done_as, tells}
-use Rattle.op_rename.specs.Ending.{IsEndStep, IsWayStep, moves_from}
-use Rattle.op_rename.specs.Rename.{does_at, reads_at}
+use Rattle.op_rename.specs.Ending.{IsRenameEndStep, IsRenameWayStep, moves_from}
+use Rattle.op_rename.specs.Rename.{rename_does_at, rename_reads_at}
 use Rattle.op_rename.specs.declared.place.Spot.{Spot}
 
 -- ---- where the way comes to no name
 
 module _ (t : Transaction) (none : t.writes ≡ []) (to : Place) (stamp : ℕ) where
-  pub at_node : (id : ℕ) (kind : Kind) → IsEndStep to stamp (At id kind) t t (steps.Reply (Refused codes.IsRoot))
-  at_node id kind C = tells C (λ T. reads_at to T (At id kind)) (λ T. does_at to stamp T (At id kind)) t none (Refused codes.IsRoot) (λ S good agrees. tt) (λ S good agrees. refl)
+  pub at_node : (id : ℕ) (kind : Kind) → IsRenameEndStep to stamp (At id kind) t t (steps.Reply (Refused codes.IsRoot))
+  at_node id kind C = tells C (λ T. rename_reads_at to T (At id kind)) (λ T. rename_does_at to stamp T (At id kind)) t none (Refused codes.IsRoot) (λ S good agrees. tt) (λ S good agrees. refl)
 
-  pub no_name : (dir : ℕ) → IsEndStep to stamp (NoName dir) t t (steps.Reply (Refused codes.IsRoot))
-  no_name dir C = tells C (λ T. reads_at to T (NoName dir)) (λ T. does_at to stamp T (NoName dir)) t none (Refused codes.IsRoot) (λ S good agrees. tt) (λ S good agrees. refl)
+  pub no_name : (dir : ℕ) → IsRenameEndStep to stamp (NoName dir) t t (steps.Reply (Refused codes.IsRoot))
+  no_name dir C = tells C (λ T. rename_reads_at to T (NoName dir)) (λ T. rename_does_at to stamp T (NoName dir)) t none (Refused codes.IsRoot) (λ S good agrees. tt) (λ S good agrees. refl)
 
-  pub stopped : (code : Code) → IsEndStep to stamp (Stopped code) t t (steps.Reply (Refused code))
-  stopped code C = tells C (λ T. reads_at to T (Stopped code)) (λ T. does_at to stamp T (Stopped code)) t none (Refused code) (λ S good agrees. tt) (λ S good agrees. refl)
+  pub stopped : (code : Code) → IsRenameEndStep to stamp (Stopped code) t t (steps.Reply (Refused code))
+  stopped code C = tells C (λ T. rename_reads_at to T (Stopped code)) (λ T. rename_does_at to stamp T (Stopped code)) t none (Refused code) (λ S good agrees. tt) (λ S good agrees. refl)
 
 -- ---- at a name
 
 module _ (to : Place) (stamp dir : ℕ) (name : List ℕ) where
   abbrev outcome : Tree → Effect
-  outcome T = does_at to stamp T (AtParent dir name)
+  outcome T = rename_does_at to stamp T (AtParent dir name)
 
   abbrev areas : Tree → List Area
-  areas T = reads_at to T (AtParent dir name)
+  areas T = rename_reads_at to T (AtParent dir name)
 
   module _ (t : Transaction) (none : t.writes ≡ []) where
-    pub asks_entry : (key : Key) → (key ≡ keys.Dent dir name) × IsUnread t.reads (keys.Dent dir name) → IsEndStep to stamp (AtParent dir name) t t (steps.Ask (asks.Get key))
+    pub asks_entry : (key : Key) → (key ≡ keys.Dent dir name) × IsUnread t.reads (keys.Dent dir name) → IsRenameEndStep to stamp (AtParent dir name) t t (steps.Ask (asks.Get key))
     asks_entry key unread C = names.asks_entry C outcome dir name (λ T. carried T to) t none key unread
 
-    pub no_entry : IsKeyRead t.reads (keys.Dent dir name) → ((S : TypedRows) → Agrees S t.reads → get S.dents (dir, name) ≡ None) → IsEndStep to stamp (AtParent dir name) t t (steps.Reply (Refused codes.NotFound))
+    pub no_entry : IsKeyRead t.reads (keys.Dent dir name) → ((S : TypedRows) → Agrees S t.reads → get S.dents (dir, name) ≡ None) → IsRenameEndStep to stamp (AtParent dir name) t t (steps.Reply (Refused codes.NotFound))
     no_entry read free C =
         names.no_entry C outcome dir name (λ T. carried T to) t none read free (Refused codes.NotFound)
         (λ S good agrees. ap (move_entry (tree_of S) stamp (dir, name) (way_to to (tree_of S)).end) (entry_is S dir name None (free S agrees)))
@@ -87,7 +87,8 @@ module _ (to : Place) (stamp dir : ℕ) (name : List ℕ) where
 
 -- the second way is what is left
 pub way_done : (to : Place) (stamp : ℕ) (from : Spot) (t : Transaction) (e : DentRow) → IsEntryRead t.reads from.dir from.name e → (after : Transaction) (step : OpStep)
-    → IsWayStep from to stamp e t after step → IsEndStep to stamp (AtParent from.dir from.name) t after step
+    → IsRenameWayStep from to stamp e t after step
+    → IsRenameEndStep to stamp (AtParent from.dir from.name) t after step
 way_done to stamp from t e read after step done C =
-    done_as C (λ T. reads_at to T (AtParent from.dir from.name)) (looks (λ T. placed_at T e.kind e.inode) (way_to to)) (λ T. does_at to stamp T (AtParent from.dir from.name)) (does (moves_from from stamp) (way_to to)) t after step
+    done_as C (λ T. rename_reads_at to T (AtParent from.dir from.name)) (looks (λ T. placed_at T e.kind e.inode) (way_to to)) (λ T. rename_does_at to stamp T (AtParent from.dir from.name)) (does (moves_from from stamp) (way_to to)) t after step
     (behind_it to stamp from.dir from.name C t.reads e read) (λ S good agrees. refl) (done C)

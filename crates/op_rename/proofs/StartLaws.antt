@@ -22,12 +22,12 @@ use Rattle.path_walk.specs.Faults.{first_fault, move_fault, no_name, refusal}
 use Rattle.path_walk.specs.Footprint.{call_areas, on_words, trip_from}
 use Rattle.path_walk.specs.Stages.{trip_at}
 use Rattle.path_walk.proofs.StepLaws.{from_words, or_fault}
-use Rattle.op_rename.specs.Rename.{areas_of, does_at, effect_of, reads_at}
+use Rattle.op_rename.specs.Rename.{rename_areas, rename_does_at, rename_effect, rename_reads_at}
 use Rattle.op_rename.specs.declared.task.RenameTask.{RenameTask}
 
 -- by the first fault of its words
 abbrev wanted : Tree → ℕ → Place → Place → Effect
-wanted T stamp from to = on_path (path_of from.text) (λ path. or_fault (move_fault from to) (does_at to stamp T (resolve T from.base path Parent)))
+wanted T stamp from to = on_path (path_of from.text) (λ path. or_fault (move_fault from to) (rename_does_at to stamp T (resolve T from.base path Parent)))
 
 -- a path without a name is looked at once both paths' words are known
 by_names : (outcome : Effect) (a b : Bool) → or_fault (first_fault (cond a (Some IsRoot) None) (cond b (Some IsRoot) None)) outcome ≡ cond a (refuses IsRoot) (cond b (refuses IsRoot) outcome)
@@ -47,13 +47,13 @@ is_wanted T stamp from to = by_words T stamp from.base to.base (path_of from.tex
 
 module _ (C : Settings) (task : RenameTask) (q : Request) (from : Place) (stamp : task.stamp ≡ q.stamp) (is : q.call ≡ calls.Rename from task.to)
     (starts : (T : Tree) → trip_at task.stage T ≡ trip_from from Parent (move_fault from task.to) T) where
-  pub begins_so : (T : Tree) → effect_of task T ≡ effect C T q
+  pub begins_so : (T : Tree) → rename_effect task T ≡ effect C T q
   begins_so T =
-      ap (λ (trip : Trip). does_at task.to task.stamp T trip.end) (starts T)
-      ∙ from_words (does_at task.to task.stamp T) (λ code. refl) T from.base Parent (path_of from.text) (move_fault from task.to)
+      ap (λ (trip : Trip). rename_does_at task.to task.stamp T trip.end) (starts T)
+      ∙ from_words (rename_does_at task.to task.stamp T) (λ code. refl) T from.base Parent (path_of from.text) (move_fault from task.to)
       ∙ ap (λ s. wanted T s from task.to) stamp
       ∙ is_wanted T q.stamp from task.to
       ∙ sym (ap (table.effect_of C T q) is)
 
-  pub begins_areas : (T : Tree) → areas_of task T ≡ call_areas C T q q.call
-  begins_areas T = ap (λ (trip : Trip). trip_areas trip (reads_at task.to T)) (starts T) ∙ sym (ap (call_areas C T q) is)
+  pub begins_areas : (T : Tree) → rename_areas task T ≡ call_areas C T q q.call
+  begins_areas T = ap (λ (trip : Trip). trip_areas trip (rename_reads_at task.to T)) (starts T) ∙ sym (ap (call_areas C T q) is)

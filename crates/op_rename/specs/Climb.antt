@@ -19,11 +19,11 @@ use Rattle.op_rename.specs.declared.climb.Climb.{Climb}
 use Rattle.op_rename.specs.declared.climb.Climb.TheVariants as climbs
 
 -- its row is still to be asked for; or all rows that agree with the reads name this parent there, or none
-abbrev pub IsAbove : Above → ReadSet → ℕ → Type 0
-IsAbove (found.Ask key) reads dir = (key ≡ keys.Inode dir) × IsUnread reads (keys.Inode dir)
-IsAbove (found.Dir parent) reads dir =
+abbrev pub IsParentFound : Above → ReadSet → ℕ → Type 0
+IsParentFound (found.Ask key) reads dir = (key ≡ keys.Inode dir) × IsUnread reads (keys.Inode dir)
+IsParentFound (found.Dir parent) reads dir =
     IsKeyRead reads (keys.Inode dir) × ((S : TypedRows) → Agrees S reads → parent_at S dir ≡ Some parent)
-IsAbove found.Nothing reads dir =
+IsParentFound found.Nothing reads dir =
     IsKeyRead reads (keys.Inode dir) × ((S : TypedRows) → Agrees S reads → parent_at S dir ≡ None)
 
 -- in all well-formed rows that agree with the reads, the directory is the source or lies below it

@@ -14,23 +14,24 @@ use Rattle.txn_task.specs.declared.messages.OpStep.{OpStep}
 use Rattle.path_walk.specs.Footprint.{moved_at, placed_at, way_to}
 use Rattle.path_walk.specs.Owed.{HasDone}
 use Rattle.path_walk.specs.Stages.{does, looks}
-use Rattle.op_rename.specs.Rename.{does_at, reads_at}
+use Rattle.op_rename.specs.Rename.{rename_does_at, rename_reads_at}
 use Rattle.op_rename.specs.declared.place.Spot.{Spot}
 use Rattle.op_rename.specs.declared.place.Spots.{Spots}
 
 -- under whatever configuration it reads what the call reads where its first way ends, and does what it does
 -- there
-abbrev pub IsEndStep : Place → ℕ → Walked → Transaction → Transaction → OpStep → Type 0
-IsEndStep to stamp walked before after s =
-    (C : Settings) → HasDone C (λ T. reads_at to T walked) (λ T. does_at to stamp T walked) before after s
+abbrev pub IsRenameEndStep : Place → ℕ → Walked → Transaction → Transaction → OpStep → Type 0
+IsRenameEndStep to stamp walked before after s =
+    (C : Settings)
+    → HasDone C (λ T. rename_reads_at to T walked) (λ T. rename_does_at to stamp T walked) before after s
 
 -- the entry at this name goes to where a walk ends
 abbrev pub moves_from : Spot → ℕ → Tree → Walked → Effect
 moves_from from stamp T = rename_at T stamp (AtParent from.dir from.name)
 
 -- the entry that moves is known, and the second way begins
-abbrev pub IsWayStep : Spot → Place → ℕ → DentRow → Transaction → Transaction → OpStep → Type 0
-IsWayStep from to stamp entry before after s =
+abbrev pub IsRenameWayStep : Spot → Place → ℕ → DentRow → Transaction → Transaction → OpStep → Type 0
+IsRenameWayStep from to stamp entry before after s =
     (C : Settings)
     → HasDone C (looks (λ T. placed_at T entry.kind entry.inode) (way_to to))
     (does (moves_from from stamp) (way_to to)) before after s

@@ -19,19 +19,19 @@ IsRenameCall (calls.Rename from to) = Unit {0}
 IsRenameCall _ = ⊥
 
 -- what is done where the first way ends, from which there is a second one
-abbrev pub does_at : Place → ℕ → Tree → Walked → Effect
-does_at to stamp T walked = rename_at T stamp walked (way_to to T).end
+abbrev pub rename_does_at : Place → ℕ → Tree → Walked → Effect
+rename_does_at to stamp T walked = rename_at T stamp walked (way_to to T).end
 
 -- what is read there
-abbrev pub reads_at : Place → Tree → Walked → List Area
-reads_at to T = renamed_at T to
+abbrev pub rename_reads_at : Place → Tree → Walked → List Area
+rename_reads_at to T = renamed_at T to
 
-abbrev pub effect_of : RenameTask → Tree → Effect
-effect_of task = does (does_at task.to task.stamp) (trip_at task.stage)
+abbrev pub rename_effect : RenameTask → Tree → Effect
+rename_effect task = does (rename_does_at task.to task.stamp) (trip_at task.stage)
 
-abbrev pub areas_of : RenameTask → Tree → List Area
-areas_of task = looks (reads_at task.to) (trip_at task.stage)
+abbrev pub rename_areas : RenameTask → Tree → List Area
+rename_areas task = looks (rename_reads_at task.to) (trip_at task.stage)
 
 -- a time that a row may have
-abbrev pub IsReady : RenameTask → Type 0
-IsReady task = IsTrue (time.fits task.stamp)
+abbrev pub IsRenameReady : RenameTask → Type 0
+IsRenameReady task = IsTrue (time.fits task.stamp)

@@ -17,20 +17,21 @@ use Rattle.op_rename.specs.Climb.{LiesBeside}
 use Rattle.op_rename.specs.declared.place.Spots.{Spots}
 
 -- both entries were read, and the directory where the entry is to come
-pub record AreKnown (reads : ReadSet) (spots : Spots) (e : DentRow) (taken : Option DentRow) : Type 0 where
+pub record AreEntriesRead (reads : ReadSet) (spots : Spots) (e : DentRow)
+    (taken : Option DentRow) : Type 0 where
   pub entry_read : IsEntryRead reads spots.from.dir spots.from.name e
   pub dir : IsDirRead reads spots.to.dir
   pub taken_read : IsNameRead reads spots.to.dir spots.to.name taken
 
 -- both entries lead to one node
-abbrev pub IsSame : DentRow → Option DentRow → Type 0
-IsSame entry None = ⊥
-IsSame entry (Some old) = old.inode ≡ entry.inode
+abbrev pub IsSameNode : DentRow → Option DentRow → Type 0
+IsSameNode entry None = ⊥
+IsSameNode entry (Some old) = old.inode ≡ entry.inode
 
 -- another node stands there, or none
-abbrev pub IsOther : DentRow → Option DentRow → Type 0
-IsOther entry None = Unit {0}
-IsOther entry (Some old) = old.inode ≢ entry.inode
+abbrev pub IsOtherNode : DentRow → Option DentRow → Type 0
+IsOtherNode entry None = Unit {0}
+IsOtherNode entry (Some old) = old.inode ≢ entry.inode
 
 abbrev pub IsInRange : Option DentRow → Type 0
 IsInRange None = Unit {0}
@@ -43,9 +44,9 @@ pub record GoesBeside (reads : ReadSet) (spots : Spots) (entry : DentRow) : Type
   pub beside : (C : Settings) → LiesBeside C reads entry.inode spots.to.dir
 
 -- nothing stands there, or a directory without entries
-abbrev pub IsCleared : ReadSet → Option DentRow → Type 0
-IsCleared reads None = Unit {0}
-IsCleared reads (Some old) =
+abbrev pub IsPlaceCleared : ReadSet → Option DentRow → Type 0
+IsPlaceCleared reads None = Unit {0}
+IsPlaceCleared reads (Some old) =
     (old.kind ≡ kinds.Dir)
     × IsFirstRead reads (dir_prefix old.inode) (raised (dir_prefix old.inode))
     × ((S : TypedRows) → Agrees S reads → (name : List ℕ) → get S.dents (old.inode, name) ≡ None)

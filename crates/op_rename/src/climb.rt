@@ -1,6 +1,6 @@
 ghost use Rattle.std.specs.Prelude.{IfOk};
 ghost use Rattle.path_walk.specs.Directories.{IsDirRead};
-ghost use Rattle.op_rename.specs.Climb.{IsAbove, IsClimbStep};
+ghost use Rattle.op_rename.specs.Climb.{IsParentFound, IsClimbStep};
 
 use fs_base::{InodeId, Memory};
 use inode_record::InodePart;
@@ -30,7 +30,7 @@ pub(crate) enum Climb {
 }
 
 fn look_above(alloc: Global, txn: &Txn, dir: InodeId) -> Result<Above, Memory>
-    ensures { IfOk result (λ above. IsAbove above txn.now.reads dir) }
+    ensures { IfOk result (λ above. IsParentFound above txn.now.reads dir) }
 {
     let row = match want_inode(alloc, txn, dir)? {
         Want::Ask(key) => return Ok(Above::Ask(key)),

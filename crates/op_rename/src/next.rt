@@ -1,6 +1,6 @@
 ghost use Rattle.std.specs.Prelude.{◌≡◌, [], true, false, IfOk, OnOk, OnErr};
 ghost use Rattle.path_walk.specs.Owed.{HasStepped};
-ghost use Rattle.op_rename.specs.Rename.{IsReady, areas_of, effect_of};
+ghost use Rattle.op_rename.specs.Rename.{IsRenameReady, rename_areas, rename_effect};
 
 use crate::source::rename_at;
 use crate::task::RenameTask;
@@ -14,13 +14,14 @@ impl RenameTask {
     ///
     /// Once memory ran out the answer is want of memory from then on.
     pub fn next(&mut self, alloc: Global, answer: Answer, txn: &mut Txn) -> Result<OpStep, Memory>
-        requires ready { IsReady self.old }
+        requires ready { IsRenameReady self.old }
         requires writes { txn.old.writes ≡ [] }
         ensures config { OnOk result (self.new.config ≡ self.old.config) }
-        ensures ready { OnOk result (IsReady self.new) }
+        ensures ready { OnOk result (IsRenameReady self.new) }
         ensures step { IfOk result
-            (HasStepped self.old.config (areas_of self.old) (areas_of self.new) (effect_of self.old)
-            (effect_of self.new) txn.old txn.new) }
+            (HasStepped self.old.config (rename_areas self.old) (rename_areas self.new)
+            (rename_effect self.old)
+            (rename_effect self.new) txn.old txn.new) }
         ensures alive { OnOk result ((self.old.failed ≡ false) × (self.new.failed ≡ false)) }
         ensures err { OnErr result (self.new.failed ≡ true) }
     {
@@ -35,13 +36,14 @@ impl RenameTask {
 
     /// The walk of the first place, and what is done where it ends.
     fn go_on(&mut self, alloc: Global, txn: &mut Txn) -> Result<OpStep, Memory>
-        requires ready { IsReady self.old }
+        requires ready { IsRenameReady self.old }
         requires writes { txn.old.writes ≡ [] }
         ensures config { OnOk result (self.new.config ≡ self.old.config) }
-        ensures ready { OnOk result (IsReady self.new) }
+        ensures ready { OnOk result (IsRenameReady self.new) }
         ensures step { IfOk result
-            (HasStepped self.old.config (areas_of self.old) (areas_of self.new) (effect_of self.old)
-            (effect_of self.new) txn.old txn.new) }
+            (HasStepped self.old.config (rename_areas self.old) (rename_areas self.new)
+            (rename_effect self.old)
+            (rename_effect self.new) txn.old txn.new) }
     {
         match self.stage.next(alloc, txn)? {
             Reached::Ask(ask) => Ok(OpStep::Ask(ask)),

@@ -5,7 +5,8 @@ ghost use Rattle.path_walk.specs.Directories.{IsDirRead, IsEntryRead, IsNameRead
 ghost use Rattle.path_walk.specs.RowPuts.{HasPut};
 ghost use Rattle.op_rename.specs.Ending.{IsMoveStep};
 ghost use Rattle.op_rename.specs.Puts.{cleared_puts};
-ghost use Rattle.op_rename.specs.Replace.{AreKnown, GoesBeside, IsCleared, IsInRange, IsOther, IsSame};
+ghost use Rattle.op_rename.specs.Replace.{AreEntriesRead, GoesBeside, IsPlaceCleared, IsInRange, IsOtherNode};
+ghost use Rattle.op_rename.specs.Replace.{IsSameNode};
 
 use crate::climb::{Climb, climb_from};
 use crate::place::Spots;
@@ -19,8 +20,8 @@ use txn_task::{Ask, OpStep, Txn, Want, WantFirst, want_inode, want_range};
 
 /// Whether both entries lead to one node.
 fn is_same(entry: &DentRow, taken: &Option<DentRow>) -> bool
-    ensures same { result ≡ true → IsSame entry.now taken.now }
-    ensures other { result ≡ false → IsOther entry.now taken.now }
+    ensures same { result ≡ true → IsSameNode entry.now taken.now }
+    ensures other { result ≡ false → IsOtherNode entry.now taken.now }
 {
     match taken {
         None => false,
@@ -68,8 +69,8 @@ fn move_dir(
     taken: Option<DentRow>,
 ) -> Result<OpStep, Memory>
     requires writes { txn.old.writes ≡ [] }
-    requires known { AreKnown txn.old.reads spots.now entry taken }
-    requires other { IsOther entry taken }
+    requires known { AreEntriesRead txn.old.reads spots.now entry taken }
+    requires other { IsOtherNode entry taken }
     requires is_dir { entry.kind ≡ kinds.Dir }
     ensures { IfOk result (λ s. (stamp : ℕ) → IsMoveStep spots.now stamp entry taken txn.old txn.new s) }
 {
@@ -93,7 +94,7 @@ fn over_dir(
     old: DentRow,
 ) -> Result<OpStep, Memory>
     requires writes { txn.old.writes ≡ [] }
-    requires known { AreKnown txn.old.reads spots.now entry (Some old) }
+    requires known { AreEntriesRead txn.old.reads spots.now entry (Some old) }
     requires other { old.inode ≢ entry.inode }
     requires beside { GoesBeside txn.old.reads spots.now entry }
     ensures { IfOk result (λ s. (stamp : ℕ) → IsMoveStep spots.now stamp entry (Some old) txn.old txn.new s) }
@@ -119,10 +120,10 @@ fn carry(
     taken: Option<DentRow>,
 ) -> Result<OpStep, Memory>
     requires writes { txn.old.writes ≡ [] }
-    requires known { AreKnown txn.old.reads spots.now entry taken }
-    requires other { IsOther entry taken }
+    requires known { AreEntriesRead txn.old.reads spots.now entry taken }
+    requires other { IsOtherNode entry taken }
     requires beside { GoesBeside txn.old.reads spots.now entry }
-    requires cleared { IsCleared txn.old.reads taken }
+    requires cleared { IsPlaceCleared txn.old.reads taken }
     ensures { IfOk result (λ s. (stamp : ℕ) → IsMoveStep spots.now stamp entry taken txn.old txn.new s) }
 {
     match want_inode(alloc, txn, entry.inode)? {
@@ -142,10 +143,10 @@ fn put_carried(
     row: InodeRow,
 ) -> Result<OpStep, Memory>
     requires writes { txn.old.writes ≡ [] }
-    requires known { AreKnown txn.old.reads spots.now entry taken }
-    requires other { IsOther entry taken }
+    requires known { AreEntriesRead txn.old.reads spots.now entry taken }
+    requires other { IsOtherNode entry taken }
     requires beside { GoesBeside txn.old.reads spots.now entry }
-    requires cleared { IsCleared txn.old.reads taken }
+    requires cleared { IsPlaceCleared txn.old.reads taken }
     requires row { IsRowRead txn.old.reads entry.inode row }
     ensures { IfOk result (λ s. (stamp : ℕ) → IsMoveStep spots.now stamp entry taken txn.old txn.new s) }
 {
@@ -182,8 +183,8 @@ fn move_leaf(
 ) -> Result<OpStep, Memory>
     requires stamp { IsTrue (time.fits stamp) }
     requires writes { txn.old.writes ≡ [] }
-    requires known { AreKnown txn.old.reads spots.now entry taken }
-    requires other { IsOther entry taken }
+    requires known { AreEntriesRead txn.old.reads spots.now entry taken }
+    requires other { IsOtherNode entry taken }
     requires no_dir { entry.kind ≢ kinds.Dir }
     ensures { IfOk result (IsMoveStep spots.now stamp entry taken txn.old txn.new) }
 {
@@ -201,7 +202,7 @@ fn move_leaf(
 /// To a free name.
 fn put_free(alloc: Global, txn: &mut Txn, spots: &Spots, entry: DentRow) -> Result<OpStep, Memory>
     requires writes { txn.old.writes ≡ [] }
-    requires known { AreKnown txn.old.reads spots.now entry None }
+    requires known { AreEntriesRead txn.old.reads spots.now entry None }
     requires no_dir { entry.kind ≢ kinds.Dir }
     ensures { IfOk result (λ s. (stamp : ℕ) → IsMoveStep spots.now stamp entry None txn.old txn.new s) }
 {
@@ -222,7 +223,7 @@ fn over_leaf(
 ) -> Result<OpStep, Memory>
     requires stamp { IsTrue (time.fits stamp) }
     requires writes { txn.old.writes ≡ [] }
-    requires known { AreKnown txn.old.reads spots.now entry (Some old) }
+    requires known { AreEntriesRead txn.old.reads spots.now entry (Some old) }
     requires other { old.inode ≢ entry.inode }
     requires no_dir { entry.kind ≢ kinds.Dir }
     requires old_no_dir { old.kind ≢ kinds.Dir }
@@ -246,7 +247,7 @@ fn put_over(
 ) -> Result<OpStep, Memory>
     requires stamp { IsTrue (time.fits stamp) }
     requires writes { txn.old.writes ≡ [] }
-    requires known { AreKnown txn.old.reads spots.now entry (Some old) }
+    requires known { AreEntriesRead txn.old.reads spots.now entry (Some old) }
     requires other { old.inode ≢ entry.inode }
     requires no_dir { entry.kind ≢ kinds.Dir }
     requires old_no_dir { old.kind ≢ kinds.Dir }

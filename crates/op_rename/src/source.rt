@@ -2,7 +2,7 @@ ghost use Rattle.std.specs.Prelude.{◌≡◌, [], IfOk, IsTrue};
 ghost use Rattle.byte_fields.specs.Fields.{time};
 ghost use Rattle.tree_model.specs.declared.walk.Walked.TheVariants.{AtParent};
 ghost use Rattle.path_walk.specs.Directories.{IsEntryRead};
-ghost use Rattle.op_rename.specs.Ending.{IsEndStep, IsWayStep};
+ghost use Rattle.op_rename.specs.Ending.{IsRenameEndStep, IsRenameWayStep};
 
 use crate::place::{Spot, place_at};
 use fs_base::{Code, Memory, Place, Reply};
@@ -22,7 +22,7 @@ pub(crate) fn rename_at(
 ) -> Result<OpStep, Memory>
     requires stamp { IsTrue (time.fits stamp) }
     requires writes { txn.old.writes ≡ [] }
-    ensures { IfOk result (IsEndStep to.now stamp walked txn.old txn.new) }
+    ensures { IfOk result (IsRenameEndStep to.now stamp walked txn.old txn.new) }
 {
     match walked {
         Walked::At(_, _) => Ok(OpStep::Reply(Reply::Refused(Code::IsRoot))),
@@ -45,7 +45,7 @@ fn rename_from(
 ) -> Result<OpStep, Memory>
     requires stamp { IsTrue (time.fits stamp) }
     requires writes { txn.old.writes ≡ [] }
-    ensures { IfOk result (IsEndStep to.now stamp (AtParent from.dir from.name) txn.old txn.new) }
+    ensures { IfOk result (IsRenameEndStep to.now stamp (AtParent from.dir from.name) txn.old txn.new) }
 {
     match want_dent(alloc, txn, from.dir, &from.name)? {
         Want::Ask(key) => Ok(OpStep::Ask(Ask::Get(key))),
@@ -69,7 +69,7 @@ fn walk_to(
     requires stamp { IsTrue (time.fits stamp) }
     requires writes { txn.old.writes ≡ [] }
     requires entry { IsEntryRead txn.old.reads from.dir from.name entry }
-    ensures { IfOk result (IsWayStep from to.now stamp entry txn.old txn.new) }
+    ensures { IfOk result (IsRenameWayStep from to.now stamp entry txn.old txn.new) }
 {
     let mut stage = Stage::new(alloc, to, WalkEnd::Parent, None)?;
     match stage.next(alloc, txn)? {

@@ -6,7 +6,7 @@ ghost use Rattle.tree_model.specs.Calls.{effect};
 ghost use Rattle.tree_model.specs.Tree.{Tree};
 ghost use Rattle.path_walk.specs.Faults.{move_fault, no_name};
 ghost use Rattle.path_walk.specs.Footprint.{call_areas};
-ghost use Rattle.op_rename.specs.Rename.{IsReady, IsRenameCall, areas_of, effect_of};
+ghost use Rattle.op_rename.specs.Rename.{IsRenameReady, IsRenameCall, rename_areas, rename_effect};
 
 use fs_base::{Call, Code, Config, Memory, Path, Place, Request};
 use path_walk::Stage;
@@ -58,11 +58,11 @@ impl RenameTask {
         requires numbers { IsTrue (is_call (request.now.stamp, request.now.call)) }
         requires call { IsRenameCall request.now.call }
         ensures config { IfOk result (λ task. task.config ≡ config.now) }
-        ensures effect { IfOk result (λ task. (T : Tree) → effect_of task T ≡ effect config.now T request.now) }
+        ensures effect { IfOk result (λ task. (T : Tree) → rename_effect task T ≡ effect config.now T request.now) }
         ensures areas { IfOk result
             (λ task. (T : Tree)
-            → areas_of task T ≡ call_areas config.now T request.now request.now.call) }
-        ensures ready { IfOk result IsReady }
+            → rename_areas task T ≡ call_areas config.now T request.now request.now.call) }
+        ensures ready { IfOk result IsRenameReady }
     {
         match &request.call {
             Call::Rename { from, to } => RenameTask::start(alloc, request, config, from, to),
@@ -81,11 +81,11 @@ impl RenameTask {
         requires numbers { IsTrue (is_call (request.now.stamp, request.now.call)) }
         requires call { request.now.call ≡ calls.Rename from.now to.now }
         ensures config { IfOk result (λ task. task.config ≡ config.now) }
-        ensures effect { IfOk result (λ task. (T : Tree) → effect_of task T ≡ effect config.now T request.now) }
+        ensures effect { IfOk result (λ task. (T : Tree) → rename_effect task T ≡ effect config.now T request.now) }
         ensures areas { IfOk result
             (λ task. (T : Tree)
-            → areas_of task T ≡ call_areas config.now T request.now request.now.call) }
-        ensures ready { IfOk result IsReady }
+            → rename_areas task T ≡ call_areas config.now T request.now request.now.call) }
+        ensures ready { IfOk result IsRenameReady }
     {
         let fault = fault_of(alloc, from, to)?;
         let stage = Stage::new(alloc, from, WalkEnd::Parent, fault)?;

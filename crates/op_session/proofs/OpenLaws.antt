@@ -41,7 +41,7 @@ use Rattle.txn_task.specs.declared.messages.Ask.TheVariants as asks
 use Rattle.txn_task.specs.declared.messages.Asked.{Asked}
 use Rattle.txn_task.specs.declared.messages.OpStep.TheVariants as steps
 use Rattle.path_walk.specs.Areas.{AreRead, Area, OneKey}
-use Rattle.path_walk.specs.Footprint.{file_at}
+use Rattle.path_walk.specs.Footprint.{file_row_at}
 use Rattle.path_walk.specs.Puts.{ArePuts, MakesPuts}
 use Rattle.path_walk.proofs.PutLaws.{puts_done}
 use Rattle.path_walk.proofs.StepLaws.{asks_key, tells}
@@ -70,7 +70,7 @@ opened_kind T id kinds.Link other = refl
 abbrev key_at : ℕ → List Area
 key_at id = OneKey (keys.Inode id) ∷ []
 
-file_area : (id : ℕ) (kind : Kind) → kind ≢ kinds.Dir → file_at (At id kind) ≡ key_at id
+file_area : (id : ℕ) (kind : Kind) → kind ≢ kinds.Dir → file_row_at (At id kind) ≡ key_at id
 file_area id kinds.Dir other = absurd (other refl)
 file_area id kinds.File other = refl
 file_area id kinds.Link other = refl
@@ -82,7 +82,7 @@ refused_at (modes.Write number stamp) client T walked code is = ap (λ r. on_fil
 module _ (t : Transaction) (none : t.writes ≡ []) (mode : OpenMode) (client : ClientId) (id : ℕ) where
   told : (reply : Reply) → IsKeyRead t.reads (keys.Inode id) → ((kind : Kind) → kind ≢ kinds.Dir → (S : TypedRows) → Agrees S t.reads → opens_at mode client (tree_of S) (At id kind) ≡ Leaves reply) → IsNodeStep mode client id t t (steps.Reply reply)
   told reply read is kind other C =
-      tells C (λ T. file_at (At id kind)) (λ T. opens_at mode client T (At id kind)) t none reply
+      tells C (λ T. file_row_at (At id kind)) (λ T. opens_at mode client T (At id kind)) t none reply
       (λ S good agrees. subst (AreRead t.reads) (sym (file_area id kind other)) (read, tt)) (λ S good agrees. is kind other S agrees)
 
   node_at : (kind : Kind) → kind ≢ kinds.Dir → (S : TypedRows) (o : Option InodeRow) → get S.inodes id ≡ o → opened_at (tree_of S) (At id kind) ≡ opened_node id (option_map node_of o)
@@ -90,7 +90,7 @@ module _ (t : Transaction) (none : t.writes ≡ []) (mode : OpenMode) (client : 
 
   pub asks_node : (key : Key) → (key ≡ keys.Inode id) × IsUnread t.reads (keys.Inode id) → IsNodeStep mode client id t t (steps.Ask (asks.Get key))
   asks_node key unread kind other C =
-      asks_key C (λ T. file_at (At id kind)) (λ T. opens_at mode client T (At id kind)) t none key (keys.Inode id) (λ T. []) unread (λ S good agrees. ([], tt, file_area id kind other))
+      asks_key C (λ T. file_row_at (At id kind)) (λ T. opens_at mode client T (At id kind)) t none key (keys.Inode id) (λ T. []) unread (λ S good agrees. ([], tt, file_area id kind other))
 
   pub nowhere : IsKeyRead t.reads (keys.Inode id) → ((S : TypedRows) → Agrees S t.reads → get S.inodes id ≡ None) → IsNodeStep mode client id t t (steps.Reply (Refused codes.NotFound))
   nowhere read absent = told (Refused codes.NotFound) read (λ kind other S agrees. refused_at mode client (tree_of S) (At id kind) codes.NotFound (node_at kind other S None (absent S agrees)))
@@ -145,7 +145,7 @@ module _ (t u : Transaction) (none : t.writes ≡ []) (client : ClientId) (id : 
       → IsNodeStep (modes.Write number stamp) client id t u (steps.Commit (File file) asked)
   unfolding spelled_value
   opened_to_write asked empty fits after kind other C =
-      puts_done C (λ T. file_at (At id kind)) (λ T. opens_at (modes.Write number stamp) client T (At id kind)) t u (File file) asked (puts)
+      puts_done C (λ T. file_row_at (At id kind)) (λ T. opens_at (modes.Write number stamp) client T (At id kind)) t u (File file) asked (puts)
       (λ S good agrees. subst (AreRead t.reads) (sym (file_area id kind other)) (is.read.seen, tt)) (are_puts C)
       (after ∙ ap (λ ws. record t { writes = set_write (spelled_key (keys.Session id client number)) (Some (spelled_session (record { stamp = stamp }))) ws }) none)
       (file_fits file fits) empty (makes C kind other)

@@ -22,7 +22,7 @@ use Rattle.txn_task.specs.Transactions.{Transaction}
 use Rattle.txn_task.specs.Wanted.{IsKeyRead}
 use Rattle.txn_task.specs.declared.messages.OpStep.{OpStep}
 use Rattle.path_walk.specs.Directories.{IsRowRead}
-use Rattle.path_walk.specs.Footprint.{file_at, session_areas}
+use Rattle.path_walk.specs.Footprint.{file_row_at, session_areas}
 use Rattle.path_walk.specs.Owed.{HasDone}
 use Rattle.path_walk.specs.RowPuts.{HasPut}
 use Rattle.op_session.specs.Session.{does_by, opens_at}
@@ -32,7 +32,7 @@ use Rattle.op_session.specs.declared.task.OpenMode.{OpenMode}
 -- under whatever configuration it reads what the call reads there, and does what the call does there
 abbrev pub IsOpenStep : OpenMode → ClientId → Walked → Transaction → Transaction → OpStep → Type 0
 IsOpenStep mode client walked before after s =
-    (C : Settings) → HasDone C (λ T. file_at walked) (λ T. opens_at mode client T walked) before after s
+    (C : Settings) → HasDone C (λ T. file_row_at walked) (λ T. opens_at mode client T walked) before after s
 
 -- at a node that is no directory by its entry
 abbrev pub IsNodeStep : OpenMode → ClientId → ℕ → Transaction → Transaction → OpStep → Type 0

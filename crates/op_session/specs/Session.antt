@@ -10,7 +10,7 @@ use Rattle.tree_model.specs.Effects.{Effect}
 use Rattle.tree_model.specs.Sessions.{extend, fstat, open_to_read_at, open_to_write_at}
 use Rattle.tree_model.specs.Tree.{Tree}
 use Rattle.path_walk.specs.Areas.{Area}
-use Rattle.path_walk.specs.Footprint.{file_at, session_areas}
+use Rattle.path_walk.specs.Footprint.{file_row_at, session_areas}
 use Rattle.path_walk.specs.Stages.{does, looks, trip_at}
 use Rattle.op_session.specs.declared.task.HeldCall.{HeldCall}
 use Rattle.op_session.specs.declared.task.HeldCall.TheVariants as held
@@ -43,14 +43,14 @@ work_effect client (Opening mode stage) T = does (opens_at mode client) (trip_at
 work_effect client (Held call session) T = does_by call client session T
 
 abbrev pub work_areas : ClientId → SessionWork → Tree → List Area
-work_areas client (Opening mode stage) T = looks (λ T. file_at) (trip_at stage) T
+work_areas client (Opening mode stage) T = looks (λ T. file_row_at) (trip_at stage) T
 work_areas client (Held call session) T = session_areas T client session
 
-abbrev pub effect_of : SessionTask → Tree → Effect
-effect_of task = work_effect task.client task.work
+abbrev pub session_effect : SessionTask → Tree → Effect
+session_effect task = work_effect task.client task.work
 
-abbrev pub areas_of : SessionTask → Tree → List Area
-areas_of task = work_areas task.client task.work
+abbrev pub session_task_areas : SessionTask → Tree → List Area
+session_task_areas task = work_areas task.client task.work
 
 -- a session's number is one, and its stamp a time
 abbrev pub MayOpen : OpenMode → Type 0
@@ -61,5 +61,5 @@ abbrev pub IsReadyWork : SessionWork → Type 0
 IsReadyWork (Opening mode stage) = MayOpen mode
 IsReadyWork (Held call session) = Unit {0}
 
-abbrev pub IsReady : SessionTask → Type 0
-IsReady task = IsReadyWork task.work
+abbrev pub IsSessionReady : SessionTask → Type 0
+IsSessionReady task = IsReadyWork task.work

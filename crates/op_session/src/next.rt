@@ -1,7 +1,7 @@
 ghost use Rattle.std.specs.Prelude.{◌≡◌, [], true, false, IfOk, OnOk, OnErr};
 ghost use Rattle.fs_base.specs.Config.{Settings};
 ghost use Rattle.path_walk.specs.Owed.{HasStepped};
-ghost use Rattle.op_session.specs.Session.{IsReady, IsReadyWork, areas_of, effect_of, work_areas, work_effect};
+ghost use Rattle.op_session.specs.Session.{IsSessionReady, IsReadyWork, session_task_areas, session_effect, work_areas, work_effect};
 
 use crate::held::held;
 use crate::opening::open_on;
@@ -40,13 +40,14 @@ impl SessionTask {
     ///
     /// Once memory ran out the answer is want of memory from then on.
     pub fn next(&mut self, alloc: Global, answer: Answer, txn: &mut Txn) -> Result<OpStep, Memory>
-        requires ready { IsReady self.old }
+        requires ready { IsSessionReady self.old }
         requires writes { txn.old.writes ≡ [] }
         ensures config { OnOk result (self.new.config ≡ self.old.config) }
-        ensures ready { OnOk result (IsReady self.new) }
+        ensures ready { OnOk result (IsSessionReady self.new) }
         ensures step { IfOk result
-            (HasStepped self.old.config (areas_of self.old) (areas_of self.new) (effect_of self.old)
-            (effect_of self.new) txn.old txn.new) }
+            (HasStepped self.old.config (session_task_areas self.old) (session_task_areas self.new)
+            (session_effect self.old)
+            (session_effect self.new) txn.old txn.new) }
         ensures alive { OnOk result ((self.old.failed ≡ false) × (self.new.failed ≡ false)) }
         ensures err { OnErr result (self.new.failed ≡ true) }
     {
@@ -60,13 +61,14 @@ impl SessionTask {
     }
 
     fn go_on(&mut self, alloc: Global, txn: &mut Txn) -> Result<OpStep, Memory>
-        requires ready { IsReady self.old }
+        requires ready { IsSessionReady self.old }
         requires writes { txn.old.writes ≡ [] }
         ensures config { OnOk result (self.new.config ≡ self.old.config) }
-        ensures ready { OnOk result (IsReady self.new) }
+        ensures ready { OnOk result (IsSessionReady self.new) }
         ensures step { IfOk result
-            (HasStepped self.old.config (areas_of self.old) (areas_of self.new) (effect_of self.old)
-            (effect_of self.new) txn.old txn.new) }
+            (HasStepped self.old.config (session_task_areas self.old) (session_task_areas self.new)
+            (session_effect self.old)
+            (session_effect self.new) txn.old txn.new) }
     {
         let step = self.work.next(self.client, alloc, txn)?;
         Ok(step)

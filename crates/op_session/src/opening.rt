@@ -3,7 +3,7 @@ ghost use Rattle.fs_base.specs.declared.limits.TheConstants.{INODE_IDS};
 ghost use Rattle.row_tree.specs.TreeOf.{node_part};
 ghost use Rattle.tree_model.specs.Sessions.{file_of};
 ghost use Rattle.tree_model.specs.declared.walk.Walked.TheVariants.{At};
-ghost use Rattle.path_walk.specs.Footprint.{file_at};
+ghost use Rattle.path_walk.specs.Footprint.{file_row_at};
 ghost use Rattle.path_walk.specs.Owed.{HasStepped};
 ghost use Rattle.path_walk.specs.Stages.{does, looks, trip_at};
 ghost use Rattle.fs_base.specs.Config.{Settings};
@@ -178,7 +178,8 @@ pub(crate) fn open_on(
     requires writes { txn.old.writes ≡ [] }
     ensures { IfOk result
         (λ s. (C : Settings)
-        → HasStepped C (looks (λ T. file_at) (trip_at stage.old)) (looks (λ T. file_at) (trip_at stage.new))
+        → HasStepped C (looks (λ T. file_row_at) (trip_at stage.old))
+        (looks (λ T. file_row_at) (trip_at stage.new))
         (does (opens_at mode client) (trip_at stage.old)) (does (opens_at mode client) (trip_at stage.new))
         txn.old txn.new s) }
 {

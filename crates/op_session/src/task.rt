@@ -3,7 +3,7 @@ ghost use Rattle.tree_model.specs.Calls.{effect};
 ghost use Rattle.tree_model.specs.Tree.{Tree};
 ghost use Rattle.path_walk.specs.Footprint.{call_areas};
 ghost use Rattle.path_walk.specs.Requests.{IsRequest};
-ghost use Rattle.op_session.specs.Session.{IsReady, IsSessionCall, areas_of, effect_of};
+ghost use Rattle.op_session.specs.Session.{IsSessionReady, IsSessionCall, session_task_areas, session_effect};
 ghost use Rattle.op_session.specs.Beginning.{IsHeldBy, IsOpenOf};
 
 use fs_base::{Call, ClientId, Config, InodeId, Memory, Place, Request, Session};
@@ -52,10 +52,11 @@ impl SessionTask {
         requires valid { IsRequest config.now request.now }
         requires call { IsSessionCall request.now.call }
         ensures config { IfOk result (λ task. task.config ≡ config.now) }
-        ensures effect { IfOk result (λ task. (T : Tree) → effect_of task T ≡ effect config.now T request.now) }
+        ensures effect { IfOk result (λ task. (T : Tree) → session_effect task T ≡ effect config.now T request.now) }
         ensures areas { IfOk result
-            (λ task. (T : Tree) → areas_of task T ≡ call_areas config.now T request.now request.now.call) }
-        ensures ready { IfOk result IsReady }
+            (λ task. (T : Tree)
+            → session_task_areas task T ≡ call_areas config.now T request.now request.now.call) }
+        ensures ready { IfOk result IsSessionReady }
     {
         match &request.call {
             Call::Openr(place) => SessionTask::open(alloc, request, config, place, OpenMode::Read),
@@ -88,10 +89,11 @@ impl SessionTask {
         requires valid { IsRequest config.now request.now }
         requires call { IsOpenOf request.now request.now.call mode place.now }
         ensures config { IfOk result (λ task. task.config ≡ config.now) }
-        ensures effect { IfOk result (λ task. (T : Tree) → effect_of task T ≡ effect config.now T request.now) }
+        ensures effect { IfOk result (λ task. (T : Tree) → session_effect task T ≡ effect config.now T request.now) }
         ensures areas { IfOk result
-            (λ task. (T : Tree) → areas_of task T ≡ call_areas config.now T request.now request.now.call) }
-        ensures ready { IfOk result IsReady }
+            (λ task. (T : Tree)
+            → session_task_areas task T ≡ call_areas config.now T request.now request.now.call) }
+        ensures ready { IfOk result IsSessionReady }
     {
         let stage = Stage::new(alloc, place, WalkEnd::Follow, None)?;
         Ok(SessionTask {
@@ -106,9 +108,9 @@ impl SessionTask {
     fn held(request: &Request, config: &Config, session: &Session, call: HeldCall) -> SessionTask
         requires call { IsHeldBy request.now.call call session.now }
         ensures config { result.config ≡ config.now }
-        ensures effect { (T : Tree) → effect_of result T ≡ effect config.now T request.now }
-        ensures areas { (T : Tree) → areas_of result T ≡ call_areas config.now T request.now request.now.call }
-        ensures ready { IsReady result }
+        ensures effect { (T : Tree) → session_effect result T ≡ effect config.now T request.now }
+        ensures areas { (T : Tree) → session_task_areas result T ≡ call_areas config.now T request.now request.now.call }
+        ensures ready { IsSessionReady result }
     {
         let session = Session {
             inode: InodeId::new(session.inode.get()),

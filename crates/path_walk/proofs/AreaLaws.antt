@@ -27,7 +27,7 @@ use Rattle.txn_task.specs.declared.messages.Ask.TheVariants as asks
 use Rattle.txn_task.proofs.MoreLaws.{key_more, first_more, pages_more, pages_done}
 use Rattle.txn_task.proofs.PageRows.{page_inside, key_from}
 use Rattle.path_walk.specs.Areas.{Area, OneKey, FirstRow, Pages, IsRead, AreRead, IsAskOf, IsNextOf, Reaches, visited, trip_areas}
-use Rattle.path_walk.specs.Walks.{after_visits, AreSeen}
+use Rattle.path_walk.specs.Walks.{after_visits, AreVisitsRead}
 
 -- ---- one after another
 
@@ -45,7 +45,7 @@ append_twice (x ∷ xs) ys zs = ap (λ (l : List Area). x ∷ l) (append_twice x
 
 -- ---- walks
 
-pub seen_read : (reads : ReadSet) (visits : List Visit) → AreSeen reads visits → AreRead reads (map visited visits)
+pub seen_read : (reads : ReadSet) (visits : List Visit) → AreVisitsRead reads visits → AreRead reads (map visited visits)
 seen_read reads [] seen = tt
 seen_read reads (visit ∷ visits) seen = (seen.0, seen_read reads visits seen.1)
 

@@ -34,7 +34,7 @@ use Rattle.tree_model.proofs.MapLaws.{both_first, both_second, decide, find_belo
 use Rattle.txn_task.specs.Agreeing.{Agrees}
 use Rattle.txn_task.specs.Writes.{read_of}
 use Rattle.path_walk.specs.Areas.{Area, OneKey, AreRead}
-use Rattle.path_walk.specs.Climbing.{above, climb, climbed, from_above, place_of}
+use Rattle.path_walk.specs.Climbing.{above, climb, climbed, from_above, first_dir_of}
 use Rattle.path_walk.proofs.PutLaws.{apart}
 
 -- from id up by parent ids to here, along the visited ids, none of which is the root or x
@@ -84,11 +84,11 @@ parent_is_dir C S good id p is = elim (zero_or id) [
 -- ---- by entries
 
 -- what is found stands among the entries
-place_found : (es : List ((ℕ × List ℕ) × ℕ)) → T (is_sorted dent_cmp es) → (id dir : ℕ) → place_of id es ≡ Some dir → (name : List ℕ) × (find dent_cmp (dir, name) es ≡ Some id)
+place_found : (es : List ((ℕ × List ℕ) × ℕ)) → T (is_sorted dent_cmp es) → (id dir : ℕ) → first_dir_of id es ≡ Some dir → (name : List ℕ) × (find dent_cmp (dir, name) es ≡ Some id)
 place_found [] h id dir is = cc
 place_found (e ∷ es) h id dir is = go (e.1 == id) refl is (λ found. place_found es (both_second _ _ h) id dir found)
   where
-    go : (b : Bool) → (e.1 == id) ≡ b → cond b (Some e.0.0) (place_of id es) ≡ Some dir → (place_of id es ≡ Some dir → (name : List ℕ) × (find dent_cmp (dir, name) es ≡ Some id)) → (name : List ℕ) × (find dent_cmp (dir, name) (e ∷ es) ≡ Some id)
+    go : (b : Bool) → (e.1 == id) ≡ b → cond b (Some e.0.0) (first_dir_of id es) ≡ Some dir → (first_dir_of id es ≡ Some dir → (name : List ℕ) × (find dent_cmp (dir, name) es ≡ Some id)) → (name : List ℕ) × (find dent_cmp (dir, name) (e ∷ es) ≡ Some id)
     go true here found later = (
       e.0.1,
       ap (λ (x : ℕ). find dent_cmp (x, e.0.1) (e ∷ es)) (sym (some_injective e.0.0 dir found))
@@ -105,11 +105,11 @@ place_found (e ∷ es) h id dir is = go (e.1 == id) refl is (λ found. place_fou
         )
 
 -- what stands among them is found
-place_there : (es : List ((ℕ × List ℕ) × ℕ)) (k : ℕ × List ℕ) (id : ℕ) → find dent_cmp k es ≡ Some id → place_of id es ≢ None
+place_there : (es : List ((ℕ × List ℕ) × ℕ)) (k : ℕ × List ℕ) (id : ℕ) → find dent_cmp k es ≡ Some id → first_dir_of id es ≢ None
 place_there [] k id is none = cc
 place_there (e ∷ es) k id is none = go (e.1 == id) refl none (λ at found. place_there es k id at found)
   where
-    go : (b : Bool) → (e.1 == id) ≡ b → cond b (Some e.0.0) (place_of id es) ≡ None → (find dent_cmp k es ≡ Some id → place_of id es ≢ None) → ⊥
+    go : (b : Bool) → (e.1 == id) ≡ b → cond b (Some e.0.0) (first_dir_of id es) ≡ None → (find dent_cmp k es ≡ Some id → first_dir_of id es ≢ None) → ⊥
     go true here found later = absurd (cc)
     go false other found later = elim (decide names k e.0) [
       | inl q ↦

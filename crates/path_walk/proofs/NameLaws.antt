@@ -27,7 +27,7 @@ use Rattle.txn_task.specs.declared.messages.Ask.TheVariants as asks
 use Rattle.txn_task.specs.declared.messages.OpStep.TheVariants as steps
 use Rattle.path_walk.specs.Areas.{Area, OneKey, AreRead}
 use Rattle.path_walk.specs.Directories.{IsDirRead, IsNameRead}
-use Rattle.path_walk.specs.Footprint.{name_at, in_dir, in_named, in_part, if_free, if_taken}
+use Rattle.path_walk.specs.Footprint.{free_name_at, in_dir, in_named, in_part, if_free, if_taken}
 use Rattle.path_walk.specs.Owed.{HasDone, HasRead, IsJustified, KeepsAreas}
 use Rattle.path_walk.proofs.AreaLaws.{no_areas}
 use Rattle.path_walk.proofs.StepLaws.{tells, asks_key, areas_on, read_behind}
@@ -82,18 +82,18 @@ module _ (C : Settings) (more : Tree → Option ℕ → List Area) (effect : Tre
 
 module _ (C : Settings) (last : Key) (effect : Tree → Effect) (dir : ℕ) (name : List ℕ) where
   abbrev areas : Tree → List Area
-  areas T = name_at last T (AtParent dir name)
+  areas T = free_name_at last T (AtParent dir name)
 
   -- one key more
   abbrev then_last : Tree → Option ℕ → List Area
   then_last T taken = if_free taken (OneKey last ∷ [])
 
   module _ (t : Transaction) (none : t.writes ≡ []) where
-    pub asks_dir : (key : Key) → (key ≡ keys.Inode dir) × IsUnread t.reads (keys.Inode dir) → HasDone C (λ T. name_at last T (AtParent dir name)) effect t t (steps.Ask (asks.Get key))
+    pub asks_dir : (key : Key) → (key ≡ keys.Inode dir) × IsUnread t.reads (keys.Inode dir) → HasDone C (λ T. free_name_at last T (AtParent dir name)) effect t t (steps.Ask (asks.Get key))
     asks_dir key unread = asks_its_dir C then_last effect dir name t none key unread
 
     pub nowhere : IsKeyRead t.reads (keys.Inode dir) → ((S : TypedRows) → IsWellFormed C S → Agrees S t.reads → HasKind S dir kinds.Dir → ⊥) → (reply : Reply) → IsJustified C effect t.reads reply
-        → HasDone C (λ T. name_at last T (AtParent dir name)) effect t t (steps.Reply reply)
+        → HasDone C (λ T. free_name_at last T (AtParent dir name)) effect t t (steps.Reply reply)
     nowhere read not_dir reply told = without_dir C then_last effect dir name t none read not_dir reply told
 
   -- ---- in a directory
@@ -102,23 +102,23 @@ module _ (C : Settings) (last : Key) (effect : Tree → Effect) (dir : ℕ) (nam
     behind_free : IsKeyRead reads (keys.Dent dir name) → ((S : TypedRows) → Agrees S reads → get S.dents (dir, name) ≡ None) → KeepsAreas C areas (λ T. OneKey last ∷ []) reads
     behind_free read free = behind_its_name C then_last effect dir name reads has None (record { seen = read; there = free })
 
-    pub all_read : IsKeyRead reads (keys.Dent dir name) → ((S : TypedRows) → Agrees S reads → get S.dents (dir, name) ≡ None) → IsKeyRead reads last → HasRead C (λ T. name_at last T (AtParent dir name)) reads
+    pub all_read : IsKeyRead reads (keys.Dent dir name) → ((S : TypedRows) → Agrees S reads → get S.dents (dir, name) ≡ None) → IsKeyRead reads last → HasRead C (λ T. free_name_at last T (AtParent dir name)) reads
     all_read read free seen = read_behind C areas (λ T. OneKey last ∷ []) reads (behind_free read free) (λ S good agrees. (seen, tt))
 
   module _ (t : Transaction) (none : t.writes ≡ []) (has : IsDirRead t.reads dir) where
-    pub asks_name : (key : Key) → (key ≡ keys.Dent dir name) × IsUnread t.reads (keys.Dent dir name) → HasDone C (λ T. name_at last T (AtParent dir name)) effect t t (steps.Ask (asks.Get key))
+    pub asks_name : (key : Key) → (key ≡ keys.Dent dir name) × IsUnread t.reads (keys.Dent dir name) → HasDone C (λ T. free_name_at last T (AtParent dir name)) effect t t (steps.Ask (asks.Get key))
     asks_name key unread = asks_its_name C then_last effect dir name t none has key unread
 
     -- where an entry stands
     pub taken : (e : DentRow) → IsKeyRead t.reads (keys.Dent dir name) → ((S : TypedRows) → Agrees S t.reads → get S.dents (dir, name) ≡ Some e) → (reply : Reply) → IsJustified C effect t.reads reply
-        → HasDone C (λ T. name_at last T (AtParent dir name)) effect t t (steps.Reply reply)
+        → HasDone C (λ T. free_name_at last T (AtParent dir name)) effect t t (steps.Reply reply)
     taken e read is reply told =
         tells C areas effect t none reply
         (read_behind C areas (λ T. []) t.reads (behind_its_name C then_last effect dir name t.reads has (Some e) (record { seen = read; there = is })) (λ S good agrees. tt))
         told
 
     pub asks_last : (key : Key) → IsKeyRead t.reads (keys.Dent dir name) → ((S : TypedRows) → Agrees S t.reads → get S.dents (dir, name) ≡ None) → (key ≡ last) × IsUnread t.reads last
-        → HasDone C (λ T. name_at last T (AtParent dir name)) effect t t (steps.Ask (asks.Get key))
+        → HasDone C (λ T. free_name_at last T (AtParent dir name)) effect t t (steps.Ask (asks.Get key))
     asks_last key read free unread = asks_key C areas effect t none key last (λ T. []) unread (behind_free t.reads has read free)
 
 -- ---- an entry that is to be there, and what is read of what it leads to

@@ -17,7 +17,7 @@ use Rattle.key_schema.specs.declared.key.Key.{Key}
 use Rattle.key_schema.specs.declared.key.Key.TheVariants as keys
 use Rattle.key_schema.proofs.KeyLaws.{spellable, one_key_each}
 use Rattle.row_records.specs.Replies.{is_reply}
-use Rattle.row_tree.specs.TypedRows.{TypedRows, lookup}
+use Rattle.row_tree.specs.TypedRows.{TypedRows, value_at}
 use Rattle.row_tree.specs.Values.{Value, spelled_value, KeptValue, IsValue}
 use Rattle.row_tree.specs.WellFormed.{IsWellFormed}
 use Rattle.tree_model.specs.Effects.{Effect, Makes, at_length, settled_by}
@@ -55,10 +55,10 @@ none_back : (o : Option Value) → option_map spelled_value o ≡ None → o ≡
 none_back None e = refl
 none_back (Some v) e = absurd (cc)
 
-pub write_changes : (rows : List Row) (S : TypedRows) (k : Key) (w : Option Value) → Spells rows S → IsValidKey k → IsValueOf k w → lookup S k ≢ w → value_at_key rows (spelled_key k) ≢ option_map spelled_value w
-write_changes rows S k None spells valid h apart same = apart (none_back (lookup S k) (sym (spells.at k valid) ∙ same))
+pub write_changes : (rows : List Row) (S : TypedRows) (k : Key) (w : Option Value) → Spells rows S → IsValidKey k → IsValueOf k w → value_at S k ≢ w → value_at_key rows (spelled_key k) ≢ option_map spelled_value w
+write_changes rows S k None spells valid h apart same = apart (none_back (value_at S k) (sym (spells.at k valid) ∙ same))
 write_changes rows S k (Some v) spells valid h apart same =
-    let found = found_back (lookup S k) (spelled_value v) (sym same ∙ spells.at k valid) in
+    let found = found_back (value_at S k) (spelled_value v) (sym same ∙ spells.at k valid) in
     apart (found.1 ∙ ap Some (one_value_each k found.0 v (lookup-form S k found.0 found.1) h.0 (spells.fits k found.0 found.1).1 h.1 found.2))
 
 -- ---- the commit
@@ -95,22 +95,22 @@ module _ (C : Settings) (q : Request) (f : Tree → Effect) (t : Transaction) (r
     range : IsValue (kept_value q reply)
     range = kept_fits q.number reply from small made.reply_fits
 
-    agreeing : (rows : List Row) (T : Tree) → IsAscending rows → (tree : HasTree C rows T) → bytes.Agrees rows t.reads → Agrees tree.0 t.reads
+    agreeing : (rows : List Row) (T : Tree) → IsAscending rows → (tree : HasTree C rows T) → bytes.RowsAgree rows t.reads → Agrees tree.0 t.reads
     agreeing rows T asc tree agrees = record { rows = rows; ascending = asc; spells = tree.1; agrees = agrees }
 
-    acts : (rows : List Row) (T : Tree) → IsAscending rows → HasTree C rows T → bytes.Agrees rows t.reads → (U : Tree) × HasTree C (with_writes rows all) U × (apply C T q (settled_by reply) ≡ (U, reply))
+    acts : (rows : List Row) (T : Tree) → IsAscending rows → HasTree C rows T → bytes.RowsAgree rows t.reads → (U : Tree) × HasTree C (with_writes rows all) U × (apply C T q (settled_by reply) ≡ (U, reply))
     acts rows T asc tree agrees =
         let whole = whole_update C q f t.reads t.writes reply update same made.sound before client range tree.0 tree.2 (agreeing rows T asc tree agrees) in
         (tree_of whole.0, (whole.0, whole.1.leads rows asc tree.1, whole.2, refl), ap (λ (x : Tree). apply C x q (settled_by reply)) (sym tree.3) ∙ whole.3)
 
     -- it is an effect that makes a tree
-    makes : (rows : List Row) (T : Tree) → IsAscending rows → HasTree C rows T → bytes.Agrees rows t.reads → (V : Tree) × (at_length (settled_by reply) (effect C T q) ≡ Makes V reply)
+    makes : (rows : List Row) (T : Tree) → IsAscending rows → HasTree C rows T → bytes.RowsAgree rows t.reads → (V : Tree) × (at_length (settled_by reply) (effect C T q) ≡ Makes V reply)
     makes rows T asc tree agrees =
         let at = agreeing rows T asc tree agrees in
         let done = made.sound tree.0 tree.2 at in
         (tree_of done.0, ap (λ (x : Tree). at_length (settled_by reply) (effect C x q)) (sym tree.3) ∙ (ap (at_length (settled_by reply)) (sym (same tree.0 tree.2 at)) ∙ done.3))
 
-    fresh : (rows : List Row) (T : Tree) → IsAscending rows → HasTree C rows T → bytes.Agrees rows t.reads → MatchOption (get T.kept q.client.0) ⊤ (λ row. row.number < q.number)
+    fresh : (rows : List Row) (T : Tree) → IsAscending rows → HasTree C rows T → bytes.RowsAgree rows t.reads → MatchOption (get T.kept q.client.0) ⊤ (λ row. row.number < q.number)
     fresh rows T asc tree agrees =
         subst (λ (x : Tree). MatchOption (get x.kept q.client.0) ⊤ (λ row. row.number < q.number)) tree.3 (kept_in tree.0 q (before tree.0 (agreeing rows T asc tree agrees)))
 
@@ -145,15 +145,15 @@ module _ (C : Settings) (q : Request) (f : Tree → Effect) (t : Transaction) (r
 
 -- ---- sound entries keep rows well formed
 
-pub sound_keeps_good : (C : Settings) (e : Entry) (rows : List Row) → IsAscending rows → IsSoundEntry C e → AreWellFormed C rows → bytes.Agrees rows e.reads → AreWellFormed C (with_writes rows e.writes.writes)
+pub sound_keeps_good : (C : Settings) (e : Entry) (rows : List Row) → IsAscending rows → IsSoundEntry C e → AreWellFormed C rows → bytes.RowsAgree rows e.reads → AreWellFormed C (with_writes rows e.writes.writes)
 sound_keeps_good C e rows asc sound good agrees = let made = sound.acts rows good.0 asc good.1 agrees in (made.0, made.1)
 
 -- where none stands, each value is another
-pub absent_changes : (S : TypedRows) (k : Key) (v : Value) → lookup S k ≡ None → lookup S k ≢ Some v
+pub absent_changes : (S : TypedRows) (k : Key) (v : Value) → value_at S k ≡ None → value_at S k ≢ Some v
 absent_changes S k v none e = let stands : None ≡ Some v = sym none ∙ e in cc
 
 -- what is put at a key that was looked at is another value
-other_changes : (S : TypedRows) (k : Key) (v : Option Value) → IsLookedAt k → IsOther S k v → lookup S k ≢ v
+other_changes : (S : TypedRows) (k : Key) (v : Option Value) → IsLookedAt k → IsOther S k v → value_at S k ≢ v
 other_changes S (keys.Alloc server) v looked other = other
 other_changes S (keys.Dent parent name) v looked other = other
 other_changes S (keys.Gc id) v looked other = other

@@ -30,7 +30,7 @@ use Rattle.path_walk.specs.declared.walk.Move.TheVariants.{Stop, Down, Followed}
 use Rattle.path_walk.specs.declared.walk.Walk.{Walk}
 use Rattle.path_walk.specs.declared.walk.WalkStep.{WalkStep}
 use Rattle.path_walk.specs.declared.walk.WalkStep.TheVariants as steps
-use Rattle.path_walk.specs.Walks.{trip_of, after_visits, AreSeen, LooksAt, KeepsTrip, HasEnd, IsWalkStep, IsEnd, IsMove, IsAtLink, IsFollowed}
+use Rattle.path_walk.specs.Walks.{trip_of, after_visits, AreVisitsRead, LooksAt, KeepsTrip, HasEnd, IsWalkStep, IsEnd, IsWalkMove, IsAtLink, IsFollowStep}
 
 pub keeps_self : (trip : Tree → Trip) (reads : ReadSet) → KeepsTrip trip trip reads
 keeps_self trip reads C S good agrees = ([], tt, refl)
@@ -39,7 +39,7 @@ after_both : (xs ys : List Visit) (trip : Trip) → after_visits (xs ++ ys) trip
 after_both [] ys trip = refl
 after_both (x ∷ xs) ys trip = ap (visiting x) (after_both xs ys trip)
 
-seen_both : (reads : ReadSet) (xs ys : List Visit) → AreSeen reads xs → AreSeen reads ys → AreSeen reads (xs ++ ys)
+seen_both : (reads : ReadSet) (xs ys : List Visit) → AreVisitsRead reads xs → AreVisitsRead reads ys → AreVisitsRead reads (xs ++ ys)
 seen_both reads [] ys first second = second
 seen_both reads (x ∷ xs) ys first second = (first.0, seen_both reads xs ys first.1 second)
 
@@ -221,21 +221,21 @@ module _ (w : Walk) (reads : ReadSet) (id : ℕ) (base : w.at_base ≡ false) (l
           more_links a b e = omega arith
 
       module _ (some : w.links ≢ 0) (new : Walk) where
-        keeps_followed : (m : Move) → IsFollowed m w new target → KeepsTrip (trip_of w) (trip_of new) reads
+        keeps_followed : (m : Move) → IsFollowStep m w new target → KeepsTrip (trip_of w) (trip_of new) reads
         keeps_followed (Stop step) f = subst (λ (x : Walk). KeepsTrip (trip_of w) (trip_of x) reads) (sym f.3) (keeps_self (trip_of w) reads)
         keeps_followed Down f = absurd f
         keeps_followed Followed f = follow_comes f.0 f.1 new (f.2.at_base ∙ base) f.2.links f.2.end (f.2.rest ∙ ap (λ names. f.0.names ++ drop 1 names) link.rest) f.2.here
 
-        moves_followed : (m : Move) → IsFollowed m w new target → IsMove m w new reads
+        moves_followed : (m : Move) → IsFollowStep m w new target → IsWalkMove m w new reads
         moves_followed (Stop step) f = subst (λ (x : WalkStep). IsWalkStep x new reads) (sym f.2) (subst (λ (x : Walk). HasEnd (trip_of x) reads (Stopped f.0)) (sym f.3) (fault_comes some f.0 f.1))
         moves_followed Down f = absurd f
         moves_followed Followed f = f.2.links
 
-        pub followed_keeps : {E : Type 0} (r : Result Move E) → IfOk r (λ m. IsFollowed m w new target) → OnOk r (KeepsTrip (trip_of w) (trip_of new) reads)
+        pub followed_keeps : {E : Type 0} (r : Result Move E) → IfOk r (λ m. IsFollowStep m w new target) → OnOk r (KeepsTrip (trip_of w) (trip_of new) reads)
         followed_keeps (Ok m) f = keeps_followed m f
         followed_keeps (Err e) f = tt
 
-        pub followed_moves : {E : Type 0} (r : Result Move E) → IfOk r (λ m. IsFollowed m w new target) → IfOk r (λ m. IsMove m w new reads)
+        pub followed_moves : {E : Type 0} (r : Result Move E) → IfOk r (λ m. IsFollowStep m w new target) → IfOk r (λ m. IsWalkMove m w new reads)
         followed_moves (Ok m) f = moves_followed m f
         followed_moves (Err e) f = tt
 

@@ -6,13 +6,13 @@ use Rattle.tree_model.specs.Tree.{Tree}
 use Rattle.path_walk.specs.Areas.{Area, OneKey}
 
 -- where the first of these entries that leads to the node lies
-abbrev pub place_of : ℕ → List ((ℕ × List ℕ) × ℕ) → Option ℕ
-place_of id [] = None
-place_of id (e ∷ es) = if e.1 == id then Some e.0.0 else place_of id es
+abbrev pub first_dir_of : ℕ → List ((ℕ × List ℕ) × ℕ) → Option ℕ
+first_dir_of id [] = None
+first_dir_of id (e ∷ es) = if e.1 == id then Some e.0.0 else first_dir_of id es
 
 -- a tree has no parents: the directory above a node is the one with an entry that leads to it
 abbrev pub above : Tree → ℕ → Option ℕ
-above T id = place_of id (entries T.entries)
+above T id = first_dir_of id (entries T.entries)
 
 abbrev pub from_above : Option ℕ → (ℕ → List Area) → List Area
 from_above None climb = []

@@ -28,10 +28,10 @@ IsNoDirRead reads dir =
     × ((C : Settings) (S : TypedRows) → IsWellFormed C S → Agrees S reads → HasKind S dir kinds.Dir → ⊥)
 
 -- its row is still to be asked for, or none has a directory there, or all have one
-abbrev pub IsInDir : InDir → ReadSet → ℕ → Type 0
-IsInDir (found.Ask key) reads dir = (key ≡ keys.Inode dir) × IsUnread reads (keys.Inode dir)
-IsInDir found.NotDir reads dir = IsNoDirRead reads dir
-IsInDir found.Dir reads dir = IsDirRead reads dir
+abbrev pub IsDirFound : InDir → ReadSet → ℕ → Type 0
+IsDirFound (found.Ask key) reads dir = (key ≡ keys.Inode dir) × IsUnread reads (keys.Inode dir)
+IsDirFound found.NotDir reads dir = IsNoDirRead reads dir
+IsDirFound found.Dir reads dir = IsDirRead reads dir
 
 -- an entry that was read, or that none is there
 pub record IsNameRead (reads : ReadSet) (dir : ℕ) (name : List ℕ) (entry : Option DentRow) : Type 0 where

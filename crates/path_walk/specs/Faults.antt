@@ -10,7 +10,7 @@ use Rattle.fs_base.specs.declared.call.Place.{Place}
 use Rattle.tree_model.specs.declared.new_node.NewNode.{NewNode}
 use Rattle.tree_model.specs.declared.new_node.NewPart.{NewPart}
 use Rattle.tree_model.specs.declared.new_node.NewPart.TheVariants as new
-use Rattle.tree_model.specs.Creating.{is_layout}
+use Rattle.tree_model.specs.Creating.{admits_given}
 use Rattle.tree_model.specs.Maps.{is_end}
 
 abbrev pub refusal : Result Path Code → Option Code
@@ -23,7 +23,7 @@ part_fault new.File = None
 part_fault (new.Link target) = refusal (path_of target)
 
 abbrev pub layout_fault : Settings → Option DefaultLayout → Option Code
-layout_fault C layout = if is_layout C layout then None else Some BadLayout
+layout_fault C layout = if admits_given C layout then None else Some BadLayout
 
 abbrev pub first_fault : Option Code → Option Code → Option Code
 first_fault (Some code) later = Some code

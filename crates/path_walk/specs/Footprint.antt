@@ -69,9 +69,9 @@ abbrev pub inode_at : Walked → List Area
 inode_at (At id kind) = OneKey (keys.Inode id) ∷ []
 inode_at _ = []
 
-abbrev pub link_at : Walked → List Area
-link_at (At id kinds.Link) = OneKey (keys.Inode id) ∷ []
-link_at _ = []
+abbrev pub link_row_at : Walked → List Area
+link_row_at (At id kinds.Link) = OneKey (keys.Inode id) ∷ []
+link_row_at _ = []
 
 abbrev pub entries_at : Walked → List Area
 entries_at (At id kinds.Dir) = entries id ∷ []
@@ -98,13 +98,13 @@ in_named T dir name more =
     ∷ in_dir (get T.nodes dir) (OneKey (keys.Dent dir name) ∷ more (get T.entries (dir, name)))
 
 -- one key more where no entry stands
-abbrev pub name_at : Key → Tree → Walked → List Area
-name_at last T (AtParent dir name) = in_named T dir name (λ taken. if_free taken (OneKey last ∷ []))
-name_at last T _ = []
+abbrev pub free_name_at : Key → Tree → Walked → List Area
+free_name_at last T (AtParent dir name) = in_named T dir name (λ taken. if_free taken (OneKey last ∷ []))
+free_name_at last T _ = []
 
 -- that of the server's next number
 abbrev pub child_at : ℕ → Tree → Walked → List Area
-child_at server = name_at (keys.Alloc server)
+child_at server = free_name_at (keys.Alloc server)
 
 abbrev pub makes : Settings → Tree → ℕ → Place → NewNode → List Area
 makes C T server place node = along T place Parent (node_fault C node) (child_at server T)
@@ -113,8 +113,8 @@ makes C T server place node = along T place Parent (node_fault C node) (child_at
 
 -- what link's second walk reads, where the first has come to a node that may have more entries
 abbrev pub joined_at : Tree → Place → Walked → List Area
-joined_at T to (At id kinds.File) = along T to Parent None (name_at (keys.Inode id) T)
-joined_at T to (At id kinds.Link) = along T to Parent None (name_at (keys.Inode id) T)
+joined_at T to (At id kinds.File) = along T to Parent None (free_name_at (keys.Inode id) T)
+joined_at T to (At id kinds.Link) = along T to Parent None (free_name_at (keys.Inode id) T)
 joined_at T to _ = []
 
 -- more is read of what an entry leads to, and of what is no directory
@@ -199,10 +199,10 @@ renamed_at T to _ = []
 -- ---- write sessions
 
 -- a directory isn't opened, so its inode isn't read
-abbrev pub file_at : Walked → List Area
-file_at (At id kinds.File) = OneKey (keys.Inode id) ∷ []
-file_at (At id kinds.Link) = OneKey (keys.Inode id) ∷ []
-file_at _ = []
+abbrev pub file_row_at : Walked → List Area
+file_row_at (At id kinds.File) = OneKey (keys.Inode id) ∷ []
+file_row_at (At id kinds.Link) = OneKey (keys.Inode id) ∷ []
+file_row_at _ = []
 
 -- the caller's session, and the inode of its file; number 0 is asked for as any other, and no row has it
 abbrev pub session_areas : Tree → ClientId → Session → List Area
@@ -216,7 +216,7 @@ abbrev pub call_areas : Settings → Tree → Request → Call → List Area
 call_areas C T q (calls.Lookup place) = along T place NoFollow None nothing_at
 call_areas C T q (calls.Stat place) = along T place Follow None inode_at
 call_areas C T q (calls.List place) = along T place Follow None entries_at
-call_areas C T q (calls.Readlink place) = along T place NoFollow None link_at
+call_areas C T q (calls.Readlink place) = along T place NoFollow None link_row_at
 call_areas C T q (calls.Mkdir place mode layout) = makes C T q.server place (new_dir mode layout)
 call_areas C T q (calls.Create place mode layout) = makes C T q.server place (new_file mode layout)
 call_areas C T q (calls.Symlink place target) = makes C T q.server place (new_link target)
@@ -226,8 +226,8 @@ call_areas C T q (calls.Link from to) =
 call_areas C T q (calls.Unlink place) = along T place Parent None (unlinked_at T)
 call_areas C T q (calls.Rmdir place) = along T place Parent None (emptied_at T)
 call_areas C T q (calls.Rename from to) = along T from Parent (move_fault from to) (renamed_at T to)
-call_areas C T q (calls.Openr place) = along T place Follow None file_at
-call_areas C T q (calls.Open place) = along T place Follow None file_at
+call_areas C T q (calls.Openr place) = along T place Follow None file_row_at
+call_areas C T q (calls.Open place) = along T place Follow None file_row_at
 call_areas C T q (calls.Fstat session) = session_areas T q.client session
 call_areas C T q (calls.Extend session place) = session_areas T q.client session
 call_areas C T q _ = []

@@ -10,7 +10,7 @@ use Rattle.key_schema.specs.declared.key.Key.{Key}
 use Rattle.key_schema.specs.declared.key.Key.TheVariants as keys
 use Rattle.row_tree.specs.Spelling.{IsValueOf}
 use Rattle.row_tree.specs.TreeOf.{tree_of}
-use Rattle.row_tree.specs.TypedRows.{TypedRows, lookup, write}
+use Rattle.row_tree.specs.TypedRows.{TypedRows, value_at, write}
 use Rattle.row_tree.specs.Values.{Value, spelled_value}
 use Rattle.row_tree.specs.WellFormed.{IsWellFormed}
 use Rattle.tree_model.specs.Effects.{Effect, Makes, at_length, settled_by}
@@ -35,7 +35,7 @@ holds_reply key = false
 -- another value than stands at the key; a session's row may be put without a look at it
 abbrev pub IsOther : TypedRows → Key → Option Value → Type 0
 IsOther S (keys.Session inode client number) value = Unit {0}
-IsOther S key value = lookup S key ≢ value
+IsOther S key value = value_at S key ≢ value
 
 -- a valid key of no kept reply; in all well-formed rows that agree with the reads, a value that it may have
 -- and hasn't yet

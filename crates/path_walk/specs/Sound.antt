@@ -25,7 +25,7 @@ use Rattle.txn_task.specs.declared.messages.Entry.{Entry}
 -- length is settled
 abbrev pub IsJustifiedReply : Settings → Request → ReadSet → Reply → Type 0
 IsJustifiedReply C q reads reply =
-    (rows : List Row) (T : Tree) → IsAscending rows → HasTree C rows T → bytes.Agrees rows reads
+    (rows : List Row) (T : Tree) → IsAscending rows → HasTree C rows T → bytes.RowsAgree rows reads
     → (settled : ℕ) → apply C T q settled ≡ (T, reply)
 
 -- what is kept of a reply: it, and the number of its request
@@ -36,7 +36,7 @@ kept_value q reply = KeptValue (record { number = q.number; reply = reply })
 abbrev pub ChangesRow : Settings → ReadSet → List Write → Key → Type 0
 ChangesRow C reads writes key =
     (v : Option (List ℕ)) → written_at writes (spelled_key key) ≡ Some v → (rows : List Row) (T : Tree)
-    → IsAscending rows → HasTree C rows T → bytes.Agrees rows reads
+    → IsAscending rows → HasTree C rows T → bytes.RowsAgree rows reads
     → value_at_key rows (spelled_key key) ≢ v
 
 -- a session's row may be written without a look at it
@@ -49,13 +49,15 @@ abbrev pub WritesChange : Settings → ReadSet → List Write → Type 0
 WritesChange C reads writes = (key : Key) → IsLookedAt key → IsValidKey key → ChangesRow C reads writes key
 
 pub record IsSoundEntry (C : Settings) (e : Entry) : Type 0 where
-  pub acts : (rows : List Row) (T : Tree) → IsAscending rows → HasTree C rows T → bytes.Agrees rows e.reads
+  pub acts : (rows : List Row) (T : Tree) → IsAscending rows → HasTree C rows T → bytes.RowsAgree rows e.reads
       → (U : Tree) × HasTree C (with_writes rows e.writes.writes) U
       × (apply C T e.request (settled_by e.reply) ≡ (U, e.reply))
   -- it is no refusal, and no query
-  pub makes : (rows : List Row) (T : Tree) → IsAscending rows → HasTree C rows T → bytes.Agrees rows e.reads
+  pub makes : (rows : List Row) (T : Tree) → IsAscending rows → HasTree C rows T
+      → bytes.RowsAgree rows e.reads
       → (V : Tree) × (at_length (settled_by e.reply) (effect C T e.request) ≡ Makes V e.reply)
-  pub fresh : (rows : List Row) (T : Tree) → IsAscending rows → HasTree C rows T → bytes.Agrees rows e.reads
+  pub fresh : (rows : List Row) (T : Tree) → IsAscending rows → HasTree C rows T
+      → bytes.RowsAgree rows e.reads
       → MatchOption (get T.kept e.request.client.0) ⊤ (λ kept. kept.number < e.request.number)
   pub valid : HaveValidKeys e.writes.writes
   pub keeps : written_at e.writes.writes (spelled_key (keys.Idem e.request.client))

@@ -26,9 +26,9 @@ IsSameKind (Walking walk) (Walking other) = Unit {0}
 IsSameKind old new = ⊥
 
 -- a call is under way only where no fault was given
-abbrev pub IsClear : Option Code → Stage → Type 0
-IsClear fault (Refused code) = Unit {0}
-IsClear fault (Walking walk) = fault ≡ None
+abbrev pub IsFaultless : Option Code → Stage → Type 0
+IsFaultless fault (Refused code) = Unit {0}
+IsFaultless fault (Walking walk) = fault ≡ None
 
 -- a key that has to be read first, or where the way ends
 abbrev pub IsReached : Reached → (Tree → Trip) → ReadSet → Type 0

@@ -44,16 +44,16 @@ after_visits [] trip = trip
 after_visits (visit ∷ visits) trip = visiting visit (after_visits visits trip)
 
 -- each of these was read
-abbrev pub AreSeen : ReadSet → List Visit → Type 0
-AreSeen reads [] = Unit {0}
-AreSeen reads (visit ∷ visits) = IsKeyRead reads (key_of_visit visit) × AreSeen reads visits
+abbrev pub AreVisitsRead : ReadSet → List Visit → Type 0
+AreVisitsRead reads [] = Unit {0}
+AreVisitsRead reads (visit ∷ visits) = IsKeyRead reads (key_of_visit visit) × AreVisitsRead reads visits
 
 -- in all well-formed rows that agree with the reads: what was looked at was read, and the rest is the same
 -- way
 abbrev pub KeepsTrip : (Tree → Trip) → (Tree → Trip) → ReadSet → Type 0
 KeepsTrip old new reads =
     (C : Settings) (S : TypedRows) → IsWellFormed C S → Agrees S reads → (visits : List Visit)
-    × AreSeen reads visits × (old (tree_of S) ≡ after_visits visits (new (tree_of S)))
+    × AreVisitsRead reads visits × (old (tree_of S) ≡ after_visits visits (new (tree_of S)))
 
 -- in all of them the way ends so, and all that is looked at on it was read
 abbrev pub HasEnd : (Tree → Trip) → ReadSet → Walked → Type 0
@@ -63,7 +63,7 @@ HasEnd trip reads end = KeepsTrip trip (λ T. stay end) reads
 abbrev pub LooksAt : (Tree → Trip) → ReadSet → Key → Type 0
 LooksAt trip reads key =
     (C : Settings) (S : TypedRows) → IsWellFormed C S → Agrees S reads
-    → (visits : List Visit) × (visit : Visit) × (rest : Trip) × AreSeen reads visits
+    → (visits : List Visit) × (visit : Visit) × (rest : Trip) × AreVisitsRead reads visits
     × (key_of_visit visit ≡ key) × (trip (tree_of S) ≡ after_visits visits (visiting visit rest))
 
 -- a key that wasn't read, and that is looked at next
@@ -102,10 +102,10 @@ IsEnd (steps.Parent id name) end = end ≡ walked.AtParent id name
 IsEnd (steps.NoName id) end = end ≡ walked.NoName id
 IsEnd (steps.Refused code) end = end ≡ walked.Stopped code
 
-abbrev pub IsMove : Move → Walk → Walk → ReadSet → Type 0
-IsMove (Stop step) old new reads = IsWalkStep step new reads
-IsMove Down old new reads = (length new.rest + 1 ≡ length old.rest) × (new.links ≡ old.links)
-IsMove Followed old new reads = new.links + 1 ≡ old.links
+abbrev pub IsWalkMove : Move → Walk → Walk → ReadSet → Type 0
+IsWalkMove (Stop step) old new reads = IsWalkStep step new reads
+IsWalkMove Down old new reads = (length new.rest + 1 ≡ length old.rest) × (new.links ≡ old.links)
+IsWalkMove Followed old new reads = new.links + 1 ≡ old.links
 
 -- the next name leads to this link, which is to be followed
 pub record IsAtLink (w : Walk) (reads : ReadSet) (id : ℕ) : Type 0 where
@@ -127,8 +127,8 @@ pub record IsOnPath (old new : Walk) (path : Path) : Type 0 where
   pub rest : new.rest ≡ path.names ++ drop 1 old.rest
 
 -- the target's fault, or on at its path
-abbrev pub IsFollowed : Move → Walk → Walk → List ℕ → Type 0
-IsFollowed (Stop step) old new target =
+abbrev pub IsFollowStep : Move → Walk → Walk → List ℕ → Type 0
+IsFollowStep (Stop step) old new target =
     (code : Code) × (path_of target ≡ Err code) × (step ≡ steps.Refused code) × (new ≡ old)
-IsFollowed Down old new target = ⊥
-IsFollowed Followed old new target = (path : Path) × (path_of target ≡ Ok path) × IsOnPath old new path
+IsFollowStep Down old new target = ⊥
+IsFollowStep Followed old new target = (path : Path) × (path_of target ≡ Ok path) × IsOnPath old new path

@@ -1,5 +1,5 @@
 ghost use Rattle.std.specs.Prelude.{IfOk};
-ghost use Rattle.path_walk.specs.Directories.{IsInDir};
+ghost use Rattle.path_walk.specs.Directories.{IsDirFound};
 
 use fs_base::{InodeId, Memory};
 use inode_record::InodePart;
@@ -19,7 +19,7 @@ pub enum InDir {
 
 /// Whether a directory stands there, by its row.
 pub fn in_dir(alloc: Global, txn: &Txn, dir: InodeId) -> Result<InDir, Memory>
-    ensures { IfOk result (λ found. IsInDir found txn.now.reads dir) }
+    ensures { IfOk result (λ found. IsDirFound found txn.now.reads dir) }
 {
     let row = match want_inode(alloc, txn, dir)? {
         Want::Ask(key) => return Ok(InDir::Ask(key)),

@@ -2,7 +2,7 @@ ghost use Rattle.std.specs.Prelude.{◌≡◌, IfOk, OnOk};
 ghost use Rattle.conflict_sets.specs.declared.sets.ReadSet.{ReadSet};
 ghost use Rattle.tree_model.specs.Tree.{Tree};
 ghost use Rattle.path_walk.specs.Footprint.{trip_from};
-ghost use Rattle.path_walk.specs.Stages.{trip_at, IsClear, IsReached, IsSameKind};
+ghost use Rattle.path_walk.specs.Stages.{trip_at, IsFaultless, IsReached, IsSameKind};
 ghost use Rattle.path_walk.specs.Walks.{KeepsTrip, IsWalkStep, trip_of};
 ghost use Rattle.path_walk.specs.declared.walk.Walk.{Walk};
 
@@ -59,7 +59,7 @@ impl Stage {
         fault: Option<Code>,
     ) -> Result<Stage, Memory>
         ensures trip { IfOk result (λ stage. (T : Tree) → trip_at stage T ≡ trip_from place.now end fault T) }
-        ensures clear { IfOk result (IsClear fault) }
+        ensures clear { IfOk result (IsFaultless fault) }
     {
         let walk = match Walk::new(alloc, place, end) {
             Ok(walk) => walk,

@@ -2,7 +2,7 @@ ghost use Rattle.std.specs.Prelude.{◌≡◌, ◌≢◌, ◌+◌, false, true, 
 ghost use Rattle.fs_base.specs.Paths.{path_of};
 ghost use Rattle.tree_model.specs.Tree.{Tree};
 ghost use Rattle.tree_model.specs.Walk.{at_file, is_last_of_parent, is_last_unfollowed, travel};
-ghost use Rattle.path_walk.specs.Walks.{IsStart, trip_of, KeepsTrip, IsWalkStep, IsEnd, IsMove, IsAtLink, IsFollowed, walk_refusal};
+ghost use Rattle.path_walk.specs.Walks.{IsStart, trip_of, KeepsTrip, IsWalkStep, IsEnd, IsWalkMove, IsAtLink, IsFollowStep, walk_refusal};
 ghost use Rattle.path_walk.specs.declared.walk.WalkError.TheVariants as errors;
 
 use fs_base::limits::LINKS_FOLLOWED;
@@ -223,7 +223,7 @@ impl Walk {
         requires { self.old.at_base ≡ false }
         ensures base { self.new.at_base ≡ false }
         ensures keeps { OnOk result (KeepsTrip (trip_of self.old) (trip_of self.new) txn.now.reads) }
-        ensures moved { IfOk result (λ m. IsMove m self.old self.new txn.now.reads) }
+        ensures moved { IfOk result (λ m. IsWalkMove m self.old self.new txn.now.reads) }
     {
         let Some(name) = self.rest.first() else {
             return match self.end {
@@ -262,7 +262,7 @@ impl Walk {
         requires link { IsAtLink self.old txn.now.reads id }
         ensures base { self.new.at_base ≡ false }
         ensures keeps { OnOk result (KeepsTrip (trip_of self.old) (trip_of self.new) txn.now.reads) }
-        ensures moved { IfOk result (λ m. IsMove m self.old self.new txn.now.reads) }
+        ensures moved { IfOk result (λ m. IsWalkMove m self.old self.new txn.now.reads) }
     {
         if self.links == 0 {
             return Ok(Move::Stop(WalkStep::Refused(Code::LinkLoop)));
@@ -281,7 +281,7 @@ impl Walk {
     fn follow(&mut self, alloc: Global, target: &Text) -> Result<Move, Memory>
         requires { self.old.links ≢ 0 }
         ensures base { self.new.at_base ≡ self.old.at_base }
-        ensures moved { IfOk result (λ m. IsFollowed m self.old self.new target.now) }
+        ensures moved { IfOk result (λ m. IsFollowStep m self.old self.new target.now) }
     {
         let path = match path_of(alloc, target)? {
             Ok(path) => path,

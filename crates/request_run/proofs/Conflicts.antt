@@ -12,7 +12,7 @@ use Rattle.fs_base.specs.declared.call.Request.{Request}
 use Rattle.key_schema.specs.Keys.{spelled_key, IsSpellable}
 use Rattle.key_schema.specs.declared.key.Key.{Key}
 use Rattle.kv_store.specs.Journal.{first_later}
-use Rattle.kv_store.specs.Later.{IsFirst, IsFirstLater}
+use Rattle.kv_store.specs.Later.{IsFirstConflict, IsFirstLater}
 use Rattle.kv_store.proofs.HoldLemmas.{same_key}
 use Rattle.kv_store.proofs.LaterLemmas.{first_later_first}
 use Rattle.txn_task.specs.declared.messages.Entry.{Entry}
@@ -27,7 +27,7 @@ use Rattle.run_record.proofs.History.{rows_ascend, rows_tree}
 pub later_above : (journal : List Entry) (snapshot : ℕ) (reads : ReadSet) (version : ℕ) (key : List ℕ) → first_later writes_of journal snapshot reads ≡ Some (version, key) → snapshot < version
 later_above journal snapshot reads version key later =
     let first : IsFirstLater writes_of journal snapshot reads version key =
-    subst (λ (o : Option (ℕ × List ℕ)). IsFirst writes_of journal snapshot reads o) later (first_later_first writes_of journal snapshot reads) in
+    subst (λ (o : Option (ℕ × List ℕ)). IsFirstConflict writes_of journal snapshot reads o) later (first_later_first writes_of journal snapshot reads) in
     let behind : snapshot ≤ first.place = first.later in
     let numbered : version ≡ first.place + 1 = first.numbered in
     omega arith
@@ -44,7 +44,7 @@ pub conflict_named : (C : Settings) (journal : List Entry) (q : Request) (floor 
     → first_later writes_of journal snapshot reads ≡ Some (version, spelled_key key) → IsConflict C journal q floor (version, key)
 conflict_named C journal q floor snapshot reads version key s b spellable later =
     let first : IsFirstLater writes_of journal snapshot reads version (spelled_key key)
-    = subst (λ (o : Option (ℕ × List ℕ)). IsFirst writes_of journal snapshot reads o) later
+    = subst (λ (o : Option (ℕ × List ℕ)). IsFirstConflict writes_of journal snapshot reads o) later
     (first_later_first writes_of journal snapshot reads) in
     let behind : snapshot ≤ first.place = first.later in
     let from : floor ≤ snapshot = b.from in

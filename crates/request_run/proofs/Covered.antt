@@ -32,8 +32,8 @@ use Rattle.path_walk.proofs.AreaLaws.{next_reaches}
 use Rattle.txn_task.specs.Agreeing.{Agrees}
 use Rattle.txn_task.specs.Transactions.{with_key, with_range}
 use Rattle.txn_task.specs.declared.messages.Ask.TheVariants as asks
-use Rattle.run_record.specs.Touched.{IsTouched, AreTouched, AreKeysTouched, AreRangesTouched}
-use Rattle.request_run.specs.Served.{AreSpelledIn, IsCovered}
+use Rattle.run_record.specs.Touched.{IsKeyTouched, AreTouched, AreKeysTouched, AreRangesTouched}
+use Rattle.request_run.specs.Served.{AreSpelledIn, AreReadsCovered}
 
 -- ---- one more read
 
@@ -71,7 +71,7 @@ RangesTouched-push areas [] read h e = e
 RangesTouched-push areas (r ∷ reads) read h e = (h.0, RangesTouched-push areas reads read h.1 e)
 
 -- a key, or rows, that could be asked for
-pub covered_key : (C : Settings) (q : Request) (reads : ReadSet) (key : Key) (value : Option (List ℕ)) → IsSpellable key → MayAsk C (λ T. footprint C T q) reads (asks.Get key) → IsCovered C q reads → IsCovered C q (with_key reads (spelled_key key) value)
+pub covered_key : (C : Settings) (q : Request) (reads : ReadSet) (key : Key) (value : Option (List ℕ)) → IsSpellable key → MayAsk C (λ T. footprint C T q) reads (asks.Get key) → AreReadsCovered C q reads → AreReadsCovered C q (with_key reads (spelled_key key) value)
 covered_key C q reads key value spelled may h S good agrees =
     let less : Agrees S reads = before_key S reads (spelled_key key) value agrees in
     let old = h S good less in (
@@ -79,8 +79,8 @@ covered_key C q reads key value spelled may h S good agrees =
       old.1,
     )
 
-pub covered_range : (C : Settings) (q : Request) (reads : ReadSet) (lo hi : List ℕ) (limit : ℕ) (rows : List Row) → MayAsk C (λ T. footprint C T q) reads (asks.Range lo hi limit) → IsCovered C q reads
-    → IsCovered C q (with_range reads (record { lo = lo; hi = hi; limit = limit; rows = rows }))
+pub covered_range : (C : Settings) (q : Request) (reads : ReadSet) (lo hi : List ℕ) (limit : ℕ) (rows : List Row) → MayAsk C (λ T. footprint C T q) reads (asks.Range lo hi limit) → AreReadsCovered C q reads
+    → AreReadsCovered C q (with_range reads (record { lo = lo; hi = hi; limit = limit; rows = rows }))
 covered_range C q reads lo hi limit rows may h S good agrees =
     let less : Agrees S reads = before_range S reads (record { lo = lo; hi = hi; limit = limit; rows = rows }) agrees in
     let old = h S good less in (
@@ -93,7 +93,7 @@ keys_touched : (areas : List Area) (reads : List KeyRead) → AreSpelledIn areas
 keys_touched areas [] h = tt
 keys_touched areas (read ∷ reads) h = ((h.0.0, h.0.2, h.0.3), keys_touched areas reads h.1)
 
-module _ (C : Settings) (q : Request) (reads : ReadSet) (rows : List Row) (T : Tree) (covered : IsCovered C q reads) (ascending : IsAscending rows) (tree : HasTree C rows T) (agrees : bytes.Agrees rows reads) where
+module _ (C : Settings) (q : Request) (reads : ReadSet) (rows : List Row) (T : Tree) (covered : AreReadsCovered C q reads) (ascending : IsAscending rows) (tree : HasTree C rows T) (agrees : bytes.RowsAgree rows reads) where
   covered_here : AreSpelledIn (footprint C T q) reads.keys × AreRangesTouched (footprint C T q) reads.ranges
   covered_here =
       subst (λ (t : Tree). AreSpelledIn (footprint C t q) reads.keys × AreRangesTouched (footprint C t q) reads.ranges) tree.3
@@ -105,7 +105,7 @@ module _ (C : Settings) (q : Request) (reads : ReadSet) (rows : List Row) (T : T
 -- ---- a key that was held
 
 -- a key that was read
-key_touched : (areas : List Area) (reads : List KeyRead) (key : Key) → IsSpellable key → AreSpelledIn areas reads → list_any (λ (read : KeyRead). is_eq (key_cmp (spelled_key key) read.key)) reads ≡ true → IsTouched areas key
+key_touched : (areas : List Area) (reads : List KeyRead) (key : Key) → IsSpellable key → AreSpelledIn areas reads → list_any (λ (read : KeyRead). is_eq (key_cmp (spelled_key key) read.key)) reads ≡ true → IsKeyTouched areas key
 key_touched areas [] key valid h e = absurd (let f : false ≡ true = e in cc)
 key_touched areas (r ∷ reads) key valid h e =
     elim (or_cases (is_eq (key_cmp (spelled_key key) r.key)) (list_any (λ (read : KeyRead). is_eq (key_cmp (spelled_key key) read.key)) reads) e) [
@@ -134,7 +134,7 @@ range_key : (from to lo hi : List ℕ) (key : List ℕ) → IsRangeOf from to lo
 range_key from to lo hi key of behind before =
     and_from (is_ge (key_cmp key lo)) (is_lt (key_cmp key hi)) (above_both lo from key of.0 behind) (ap (λ h. is_lt (key_cmp key h)) (sym of.1) ∙ before)
 
-range_touched : (areas : List Area) (reads : List RangeRead) (key : Key) → AreRangesTouched areas reads → list_any (λ (read : RangeRead). range_holds read (spelled_key key)) reads ≡ true → IsTouched areas key
+range_touched : (areas : List Area) (reads : List RangeRead) (key : Key) → AreRangesTouched areas reads → list_any (λ (read : RangeRead). range_holds read (spelled_key key)) reads ≡ true → IsKeyTouched areas key
 range_touched areas [] key h e = absurd (let f : false ≡ true = e in cc)
 range_touched areas (r ∷ reads) key h e =
     elim (or_cases (range_holds r (spelled_key key)) (list_any (λ (read : RangeRead). range_holds read (spelled_key key)) reads) e) [
@@ -149,8 +149,8 @@ range_touched areas (r ∷ reads) key h e =
     ]
 
 -- A key that reads hold, where rows of the tree agree with them, is touched.
-pub held_touched : (C : Settings) (q : Request) (reads : ReadSet) (rows : List Row) (T : Tree) (key : Key) → IsCovered C q reads → IsAscending rows → HasTree C rows T → bytes.Agrees rows reads → IsSpellable key → reads_hold reads (spelled_key key) ≡ true
-    → IsTouched (footprint C T q) key
+pub held_touched : (C : Settings) (q : Request) (reads : ReadSet) (rows : List Row) (T : Tree) (key : Key) → AreReadsCovered C q reads → IsAscending rows → HasTree C rows T → bytes.RowsAgree rows reads → IsSpellable key → reads_hold reads (spelled_key key) ≡ true
+    → IsKeyTouched (footprint C T q) key
 held_touched C q reads rows T key covered ascending tree agrees fits held =
     let here = covered_here C q reads rows T covered ascending tree agrees in
     elim (or_cases (list_any (λ (read : KeyRead). is_eq (key_cmp (spelled_key key) read.key)) reads.keys) (list_any (λ (read : RangeRead). range_holds read (spelled_key key)) reads.ranges) held) [

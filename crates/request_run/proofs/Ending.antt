@@ -31,16 +31,16 @@ use Rattle.tree_model.proofs.ApplyLaws.{apply_update}
 use Rattle.txn_task.specs.declared.messages.Ask.TheVariants as asks
 use Rattle.txn_task.specs.declared.messages.Entry.{Entry}
 use Rattle.txn_task.specs.declared.outcome.Outcome.{Outcome}
-use Rattle.meta_task.specs.Task.{TaskView, IsKeptReply, IsStale, IsToldReply}
+use Rattle.meta_task.specs.Task.{TaskView, IsKeptReply, IsReplyStale, IsToldReply}
 use Rattle.meta_task.specs.declared.waiting.Waiting.TheVariants as waits
 use Rattle.run_record.specs.Legal.{EntryAt, journal_rows, tree_at, writes_of}
-use Rattle.run_record.specs.Outcomes.{AreAttempts, IsSeen, IsTold, MayTell, NamesEntry, Shows}
+use Rattle.run_record.specs.Outcomes.{AreAttempts, IsSeen, IsToldOutcome, MayTell, NamesEntry, Shows}
 use Rattle.run_record.specs.Right.{IsNoRefusal}
 use Rattle.run_record.proofs.OneMore.{last_version_low}
 use Rattle.run_record.proofs.Rising.{last_version_above}
 use Rattle.run_record.proofs.TreeReplies.{IsTreeReply, accepted_reply, attempts_left, made_reply, may_tell, new_reply, query_reply}
 use Rattle.histories.proofs.Lists.{at_within}
-use Rattle.request_run.specs.Served.{CameTo, EachOf, HasMet, IsBegun, IsOwn, last_version}
+use Rattle.request_run.specs.Served.{CameTo, EachOf, HasMetConflicts, IsBegun, IsOwnEntry, last_version}
 use Rattle.run_record.specs.Sound.{IsSoundJournal}
 use Rattle.run_record.proofs.History.{entry_sound, kept_above, kept_by, once, row_kept, rows_ascend, rows_tree}
 
@@ -59,7 +59,7 @@ told_again C T q settled kept update is same =
     ∙ ap (λ b. cond b (T, kept.reply) (cond (nat_lt q.number kept.number) (T, Refused (codes.Stale kept.number)) (settle T q settled (effect C T q)))) (eq-eqb kept.number q.number same))
 
 -- what the tree tells
-shows_told : (C : Settings) (journal : List Entry) (q : Request) (front : ℕ) (outcome : Outcome) (reply : Reply) → IsTreeReply reply → IsTold C journal q front outcome → Shows C journal q front outcome reply
+shows_told : (C : Settings) (journal : List Entry) (q : Request) (front : ℕ) (outcome : Outcome) (reply : Reply) → IsTreeReply reply → IsToldOutcome C journal q front outcome → Shows C journal q front outcome reply
 shows_told C journal q front outcome (Refused codes.Conflict) h told = absurd h
 shows_told C journal q front outcome (Refused codes.StoreFull) h told = absurd h
 shows_told C journal q front outcome reply h told = told
@@ -67,15 +67,16 @@ shows_told C journal q front outcome reply h told = told
 module _ (C : Settings) (journal : List Entry) (s : IsSoundJournal C journal) where
   pub no_refusal : (place : ℕ) (e : Entry) → EntryAt journal place e → IsNoRefusal e.reply
   no_refusal place e at =
-      let sound : IsSoundEntry C e × bytes.Agrees (journal_rows C journal place) e.reads = entry_sound C journal s place e at in
+      let sound : IsSoundEntry C e × bytes.RowsAgree (journal_rows C journal place) e.reads = entry_sound C journal s place e at in
       let made : (V : Tree) × (at_length (settled_by e.reply) (effect C (tree_at C journal place) e.request) ≡ Makes V e.reply) = sound.0.makes (journal_rows C journal place) (tree_at C journal place) (rows_ascend C journal s place) (rows_tree C journal s place) sound.1 in
       made_reply C (tree_at C journal place) made.0 e.request e.reply made.1
 
   -- ---- a request that has met these conflicts
 
-  module _ (q : Request) (front : ℕ) (pairs : List (ℕ × Key)) (h : HasMet C journal q front pairs) where
+  module _ (q : Request) (front : ℕ) (pairs : List (ℕ × Key))
+      (h : HasMetConflicts C journal q front pairs) where
     -- an entry of its client with as great a number is its own
-    is_own : (place : ℕ) (e : Entry) → EntryAt journal place e → e.request.client ≡ q.client → q.number ≤ e.request.number → IsOwn q (last_version front pairs) place e
+    is_own : (place : ℕ) (e : Entry) → EntryAt journal place e → e.request.client ≡ q.client → q.number ≤ e.request.number → IsOwnEntry q (last_version front pairs) place e
     is_own place e at mine l = elim (cases_lt place front) [
       | inl before ↦ absurd (let less : e.request.number < q.number = h.before place e at mine before in omega arith)
       | inr since ↦ h.since place e at mine since
@@ -101,7 +102,7 @@ module _ (C : Settings) (journal : List Entry) (s : IsSoundJournal C journal) wh
       -- the number of an entry that can be committed is new
       pub none_sound : (e : Entry) → e.request ≡ q → e.reads ≡ reads → IsSoundEntry C e → HasNone journal q
       none_sound e request same sound =
-          none_fresh (subst (IsFresh T) request (sound.fresh (journal_rows C journal snapshot) T (rows_ascend C journal s snapshot) (rows_tree C journal s snapshot) (subst (bytes.Agrees (journal_rows C journal snapshot)) (sym same) b.agrees)))
+          none_fresh (subst (IsFresh T) request (sound.fresh (journal_rows C journal snapshot) T (rows_ascend C journal s snapshot) (rows_tree C journal s snapshot) (subst (bytes.RowsAgree (journal_rows C journal snapshot)) (sym same) b.agrees)))
 
       -- so is one that what was read shows to be
       fresh_read : IsKeptBefore reads q → IsFresh T q
@@ -111,7 +112,7 @@ module _ (C : Settings) (journal : List Entry) (s : IsSoundJournal C journal) wh
 
       module _ (reply : Reply) (told : (settled : ℕ) → apply C T q settled ≡ (T, reply)) where
         -- a stale number has no entry
-        none_stale : q.client.0 < 2 ^ 128 → IsStale reply → HasNone journal q
+        none_stale : q.client.0 < 2 ^ 128 → IsReplyStale reply → HasNone journal q
         none_stale small stale place e at mine number =
             let kept : (k : KeptReply) × (get T.kept q.client.0 ≡ Some k) × (e.request.number ≤ k.number) = kept_of_own place e at mine in
             let least : e.request.number ≤ kept.0.number = kept.2 in
@@ -129,21 +130,21 @@ module _ (C : Settings) (journal : List Entry) (s : IsSoundJournal C journal) wh
             ]
 
         -- an uncommitted reply isn't that of an entry, and it is the tree's
-        none_told : (is_query q.call ≡ true) ⊎ (IsKeptBefore reads q ⊎ IsStale reply) → HasNone journal q
+        none_told : (is_query q.call ≡ true) ⊎ (IsKeptBefore reads q ⊎ IsReplyStale reply) → HasNone journal q
         none_told (inl query) place e at mine number =
             let update : is_query q.call ≡ false = ap is_query (sym (is_own place e at mine (omega arith)).call) ∙ (entry_sound C journal s place e at).0.update in
             absurd (cc)
         none_told (inr (inl kept)) place e at mine number = none_fresh (fresh_read kept) place e at mine number
         none_told (inr (inr stale)) place e at mine number = none_stale h.small stale place e at mine number
 
-        tree_told : (is_query q.call ≡ true) ⊎ (IsKeptBefore reads q ⊎ IsStale reply) → IsTreeReply reply
+        tree_told : (is_query q.call ≡ true) ⊎ (IsKeptBefore reads q ⊎ IsReplyStale reply) → IsTreeReply reply
         tree_told (inl query) = query_reply C T q 0 reply query (told 0)
         tree_told (inr (inl kept)) = new_reply C T q 0 reply (fresh_read kept) (told 0)
         tree_told (inr (inr stale)) = subst IsTreeReply (sym stale.1) tt
 
   -- ---- what came of it
 
-  module _ (attempts : ℕ) (q : Request) (front : ℕ) (outcome : Outcome) (h : HasMet C journal q front outcome.conflicts) where
+  module _ (attempts : ℕ) (q : Request) (front : ℕ) (outcome : Outcome) (h : HasMetConflicts C journal q front outcome.conflicts) where
     abbrev floor : ℕ
     floor = last_version front outcome.conflicts
 
@@ -157,7 +158,7 @@ module _ (C : Settings) (journal : List Entry) (s : IsSoundJournal C journal) wh
     marked b is = subst (λ c. MatchBool c (NamesEntry journal q front outcome) (IsSeen C journal q front outcome)) (sym is)
 
     -- an entry has the reply
-    pub came_made : (place : ℕ) (e : Entry) → EntryAt journal place e → e.request.client ≡ q.client → IsOwn q floor place e → e.reply ≡ outcome.reply → outcome.committed ≡ true → outcome.version ≡ place + 1 → length outcome.conflicts < attempts
+    pub came_made : (place : ℕ) (e : Entry) → EntryAt journal place e → e.request.client ≡ q.client → IsOwnEntry q floor place e → e.reply ≡ outcome.reply → outcome.committed ≡ true → outcome.version ≡ place + 1 → length outcome.conflicts < attempts
         → CameTo C attempts journal q front outcome
     came_made place e at mine own reply mark version left =
         let within : place < length journal = at_within journal place e at in

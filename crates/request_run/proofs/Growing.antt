@@ -9,7 +9,8 @@ use Rattle.key_schema.specs.declared.key.Key.{Key}
 use Rattle.txn_task.specs.declared.messages.Entry.{Entry}
 use Rattle.meta_task.specs.Task.{TaskView}
 use Rattle.run_record.proofs.Growing.{AreConflicts-longer, at_either, rows-longer, within_longer}
-use Rattle.request_run.specs.Served.{AreOthers, EachOf, HasMet, IsBegun, IsOwn, IsServed, last_version}
+use Rattle.request_run.specs.Served.{AreOtherClients, EachOf, HasMetConflicts, IsBegun, IsOwnEntry}
+use Rattle.request_run.specs.Served.{IsTaskServed, last_version}
 
 module _ (C : Settings) (es more : List Entry) where
   -- what holds of the client's old entries and of its new ones
@@ -22,20 +23,20 @@ module _ (C : Settings) (es more : List Entry) where
   -- ---- a request being served
 
   -- new entries of its client are the request's
-  pub HasMet-longer : (request : Request) (front : ℕ) (pairs : List (ℕ × Key)) → EachOf more request.client (λ behind e. IsOwn request (last_version front pairs) (length es + behind) e) → HasMet C es request front pairs → HasMet C (es ++ more) request front pairs
+  pub HasMet-longer : (request : Request) (front : ℕ) (pairs : List (ℕ × Key)) → EachOf more request.client (λ behind e. IsOwnEntry request (last_version front pairs) (length es + behind) e) → HasMetConflicts C es request front pairs → HasMetConflicts C (es ++ more) request front pairs
   HasMet-longer request front pairs new h =
       let front_in : front ≤ length es = h.front_in in
       record {
         small = h.small;
         front_in = within_longer C es more front h.front_in;
         before = EachOf-longer request.client (λ place e. place < front → e.request.number < request.number) (λ behind e at mine l. absurd (omega arith)) h.before;
-        since = EachOf-longer request.client (λ place e. front ≤ place → IsOwn request (last_version front pairs) place e) (λ behind e at mine l. new behind e at mine) h.since;
+        since = EachOf-longer request.client (λ place e. front ≤ place → IsOwnEntry request (last_version front pairs) place e) (λ behind e at mine l. new behind e at mine) h.since;
         conflicts_are = AreConflicts-longer C es more request front pairs h.conflicts_are;
         last = within_longer C es more (last_version front pairs) h.last;
       }
 
   -- there are none
-  pub IsServed-longer : (attempts : ℕ) (request : Request) (front : ℕ) (task : TaskView) → AreOthers more request.client → IsServed C attempts es request front task → IsServed C attempts (es ++ more) request front task
+  pub IsServed-longer : (attempts : ℕ) (request : Request) (front : ℕ) (task : TaskView) → AreOtherClients more request.client → IsTaskServed C attempts es request front task → IsTaskServed C attempts (es ++ more) request front task
   IsServed-longer attempts request front task others h =
       record {
         config = h.config;
@@ -50,7 +51,7 @@ module _ (C : Settings) (es more : List Entry) where
       begun_longer k =
           assumption (
             within_longer C es more task.snapshot k.within,
-            subst (λ (rows : List Row). bytes.Agrees rows task.reads)
+            subst (λ (rows : List Row). bytes.RowsAgree rows task.reads)
                 (sym (rows-longer C es more task.snapshot k.within)) k.agrees,
             EachOf-longer request.client (λ place e. place < task.snapshot)
                 (λ behind e at mine. absurd (others behind e at mine)) k.own,

@@ -6,7 +6,7 @@ use Rattle.conflict_sets.specs.Rows.{IsAscending, with_writes}
 use Rattle.conflict_sets.specs.declared.sets.ReadSet.{ReadSet}
 use Rattle.fs_base.specs.Config.{Settings}
 use Rattle.fs_base.specs.declared.row.Row.{Row}
-use Rattle.kv_store.specs.Journal.{after_all, rows_at, this_or, later_from, first_later, is_written, written_value, writer_from, last_writer, IsRun}
+use Rattle.kv_store.specs.Journal.{after_all, rows_at, this_or, later_from, first_later, is_written, written_value, writer_from, last_writer, IsAgreedJournal}
 use Rattle.kv_store.specs.Store.{Store}
 use Rattle.meta_task.specs.declared.entry.MetaEntry.{MetaEntry}
 use Rattle.path_walk.specs.Sound.{IsSoundEntry}
@@ -15,7 +15,7 @@ use Rattle.txn_task.specs.declared.messages.Entry.{Entry}
 use Rattle.run_record.specs.Legal.{reads_of, writes_of}
 use Rattle.request_run.specs.Entries.{entries_of}
 use Rattle.run_record.specs.Sound.{IsSoundJournal}
-use Rattle.request_run.specs.Sound.{IsOpen}
+use Rattle.request_run.specs.Sound.{IsStoreOpening}
 
 -- ---- lists
 
@@ -54,15 +54,15 @@ writer_same journal n key = writer_after key 0 0 (take n journal) ∙ ap (writer
 -- ---- the run
 
 run_entries : (C : Settings) (rows : List Row) (journal : List MetaEntry)
-    → IsRun (λ (m : MetaEntry). m.entry.reads) (λ (m : MetaEntry). m.entry.writes) (λ (m : MetaEntry). IsSoundEntry C m.entry) rows journal
-    → IsRun reads_of writes_of (IsSoundEntry C) rows (entries_of journal)
+    → IsAgreedJournal (λ (m : MetaEntry). m.entry.reads) (λ (m : MetaEntry). m.entry.writes) (λ (m : MetaEntry). IsSoundEntry C m.entry) rows journal
+    → IsAgreedJournal reads_of writes_of (IsSoundEntry C) rows (entries_of journal)
 run_entries C rows [] run = tt
 run_entries C rows (m ∷ journal) run = (run.0, run.1, run_entries C (with_writes rows m.entry.writes.writes) journal run.2)
 
 -- what the store keeps of its journal is that it is sound
-pub sound_journal : (store : Store MetaEntry) → IsOpen store → IsAscending store.opening
+pub sound_journal : (store : Store MetaEntry) → IsStoreOpening store → IsAscending store.opening
     → ((n : ℕ) → AreWellFormed store.config (rows_at (λ (m : MetaEntry). m.entry.writes) store.opening store.journal n))
-    → IsRun (λ (m : MetaEntry). m.entry.reads) (λ (m : MetaEntry). m.entry.writes) (λ (m : MetaEntry). IsSoundEntry store.config m.entry) store.opening store.journal
+    → IsAgreedJournal (λ (m : MetaEntry). m.entry.reads) (λ (m : MetaEntry). m.entry.writes) (λ (m : MetaEntry). IsSoundEntry store.config m.entry) store.opening store.journal
     → IsSoundJournal store.config (entries_of store.journal)
 sound_journal store begun ascending good run =
     record {
@@ -71,6 +71,6 @@ sound_journal store begun ascending good run =
       good = λ n. subst (AreWellFormed store.config)
           (rows_same store.opening store.journal n ∙ ap (λ (rows : List Row). rows_at writes_of rows (entries_of store.journal) n) begun.opening)
           (good n);
-      run = subst (λ (rows : List Row). IsRun reads_of writes_of (IsSoundEntry store.config) rows (entries_of store.journal)) begun.opening
+      run = subst (λ (rows : List Row). IsAgreedJournal reads_of writes_of (IsSoundEntry store.config) rows (entries_of store.journal)) begun.opening
           (run_entries store.config store.opening store.journal run);
     }

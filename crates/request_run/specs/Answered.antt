@@ -25,7 +25,7 @@ MayAnswer C journal snapshot (asks.Get key) = snapshot ≤ length journal
 MayAnswer C journal snapshot (asks.Range lo hi limit) = snapshot ≤ length journal
 MayAnswer C journal snapshot (asks.Commit entry) =
     (snapshot ≤ length journal) × IsSoundEntry C entry
-    × bytes.Agrees (journal_rows C journal snapshot) entry.reads
+    × bytes.RowsAgree (journal_rows C journal snapshot) entry.reads
 MayAnswer C journal snapshot ask = ⊥
 
 -- the answer is the store's: the journal's length, what stood at the snapshot, or what came of the commit
@@ -62,15 +62,15 @@ HasKey (answers.Conflict version key) = IsSpellable key
 HasKey answer = Unit {0}
 
 -- the numbers of a key that is asked for fit its bytes
-abbrev pub IsSpelled : Ask → Type 0
-IsSpelled (asks.Get key) = IsSpellable key
-IsSpelled ask = Unit {0}
+abbrev pub IsAskSpellable : Ask → Type 0
+IsAskSpellable (asks.Get key) = IsSpellable key
+IsAskSpellable ask = Unit {0}
 
 -- the store answers the ask of a task, which asks on
 pub record IsExchange (C : Settings) (old new : List Entry) (task : TaskView) (ask : Ask) (after : TaskView)
     (following : Ask) : Type 0 where
   pub answer : Answer
   pub key : HasKey answer
-  pub spelled : IsSpelled ask
+  pub spelled : IsAskSpellable ask
   pub answered : IsAnswer C old new task.snapshot ask answer
   pub asks : Asks task answer after following

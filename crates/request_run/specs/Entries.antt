@@ -8,10 +8,11 @@ use Rattle.txn_task.specs.declared.messages.Entry.{Entry}
 abbrev pub entries_of : List MetaEntry → List Entry
 entries_of journal = map (λ whole. whole.entry) journal
 
-abbrev pub with_entry : Store MetaEntry → Entry → Store MetaEntry
-with_entry store entry = record store { journal = store.journal ++ record { entry = entry } ∷ [] }
+abbrev pub store_with_entry : Store MetaEntry → Entry → Store MetaEntry
+store_with_entry store entry = record store { journal = store.journal ++ record { entry = entry } ∷ [] }
 
 -- one turn of a client, of the store alone: it is as it was, or has one entry more, which is the client's
 abbrev pub IsGrowth : Store MetaEntry → Store MetaEntry → ClientId → Type 0
 IsGrowth before after client =
-    (after ≡ before) ⊎ ((entry : Entry) × (after ≡ with_entry before entry) × (entry.request.client ≡ client))
+    (after ≡ before)
+    ⊎ ((entry : Entry) × (after ≡ store_with_entry before entry) × (entry.request.client ≡ client))

@@ -38,8 +38,8 @@ AreSpelledIn areas (read ∷ reads) =
     × AreSpelledIn areas reads
 
 -- what was read lies in the footprint, in all well-formed rows that agree with it
-abbrev pub IsCovered : Settings → Request → ReadSet → Type 0
-IsCovered C request reads =
+abbrev pub AreReadsCovered : Settings → Request → ReadSet → Type 0
+AreReadsCovered C request reads =
     (S : TypedRows) → IsWellFormed C S → Agrees S reads
     → AreSpelledIn (footprint C (tree_of S) request) reads.keys
     × AreRangesTouched (footprint C (tree_of S) request) reads.ranges
@@ -47,7 +47,7 @@ IsCovered C request reads =
 -- so it was of each entry, and the footprint was read whole
 abbrev pub AreCovered : Settings → List Entry → Type 0
 AreCovered C journal =
-    (place : ℕ) (entry : Entry) → EntryAt journal place entry → IsCovered C entry.request entry.reads
+    (place : ℕ) (entry : Entry) → EntryAt journal place entry → AreReadsCovered C entry.request entry.reads
     × HasRead C (λ T. footprint C T entry.request) entry.reads
 
 -- ---- a client's entries
@@ -59,8 +59,8 @@ EachOf journal client holds =
     → holds place entry
 
 -- each is another client's
-abbrev pub AreOthers : List Entry → ClientId → Type 0
-AreOthers journal client =
+abbrev pub AreOtherClients : List Entry → ClientId → Type 0
+AreOtherClients journal client =
     (place : ℕ) (entry : Entry) → EntryAt journal place entry → entry.request.client ≢ client
 
 -- each of the request's client has a smaller number
@@ -69,7 +69,7 @@ AreEarlier journal request =
     EachOf journal request.client (λ place entry. entry.request.number < request.number)
 
 -- an entry of the request's client is of that request, and was made from this version on
-pub record IsOwn (request : Request) (floor place : ℕ) (entry : Entry) : Type 0 where
+pub record IsOwnEntry (request : Request) (floor place : ℕ) (entry : Entry) : Type 0 where
   pub number : entry.request.number ≡ request.number
   pub stamp : entry.request.stamp ≡ request.stamp
   pub call : entry.request.call ≡ request.call
@@ -81,14 +81,14 @@ pub record IsOwn (request : Request) (floor place : ℕ) (entry : Entry) : Type 
 
 -- the call began with the front, and has met these conflicts: behind the last one lies what its client has
 -- made since
-pub record HasMet (C : Settings) (journal : List Entry) (request : Request) (front : ℕ)
+pub record HasMetConflicts (C : Settings) (journal : List Entry) (request : Request) (front : ℕ)
     (conflicts : List (ℕ × Key)) : Type 0 where
   pub small : request.client.0 < 2 ^ 128
   pub front_in : front ≤ length journal
   pub before : EachOf journal request.client
       (λ place entry. place < front → entry.request.number < request.number)
   pub since : EachOf journal request.client
-      (λ place entry. front ≤ place → IsOwn request (last_version front conflicts) place entry)
+      (λ place entry. front ≤ place → IsOwnEntry request (last_version front conflicts) place entry)
   pub conflicts_are : AreConflicts C journal request front conflicts
   pub last : last_version front conflicts ≤ length journal
 
@@ -97,37 +97,37 @@ pub record IsBegun (C : Settings) (journal : List Entry) (request : Request) (fl
     (reads : ReadSet) : Type 0 where
   pub from : floor ≤ snapshot
   pub within : snapshot ≤ length journal
-  pub agrees : bytes.Agrees (journal_rows C journal snapshot) reads
-  pub covered : IsCovered C request reads
+  pub agrees : bytes.RowsAgree (journal_rows C journal snapshot) reads
+  pub covered : AreReadsCovered C request reads
   -- the client has made no entry since
   pub own : EachOf journal request.client (λ place entry. place < snapshot)
 
 -- the task is the request's; an attempt that has begun isn't one too many
-pub record IsServed (C : Settings) (attempts : ℕ) (journal : List Entry) (request : Request) (front : ℕ)
+pub record IsTaskServed (C : Settings) (attempts : ℕ) (journal : List Entry) (request : Request) (front : ℕ)
     (task : TaskView) : Type 0 where
   pub config : task.config ≡ C
   pub attempts_are : task.attempts ≡ attempts
   pub request_is : task.request ≡ request
-  pub met : HasMet C journal request front task.conflicts
+  pub met : HasMetConflicts C journal request front task.conflicts
   pub begun : task.begun ≡ true
       → IsBegun C journal request (last_version front task.conflicts) task.snapshot task.reads
       × (length task.conflicts < attempts)
 
 -- what the ask that waits for its answer owes
-abbrev pub IsPending : Settings → TaskView → Ask → Type 0
-IsPending C task asks.Begin =
+abbrev pub IsAskPending : Settings → TaskView → Ask → Type 0
+IsAskPending C task asks.Begin =
     (task.waiting ≡ waits.Beginning) × (task.begun ≡ false) × (length task.conflicts < task.attempts)
-IsPending C task (asks.Get key) =
+IsAskPending C task (asks.Get key) =
     (task.waiting ≡ waits.Reading (asks.Get key)) × (task.begun ≡ true)
     × MayAsk C (λ T. footprint C T task.request) task.reads (asks.Get key)
-IsPending C task (asks.Range lo hi limit) =
+IsAskPending C task (asks.Range lo hi limit) =
     (task.waiting ≡ waits.Reading (asks.Range lo hi limit)) × (task.begun ≡ true)
     × MayAsk C (λ T. footprint C T task.request) task.reads (asks.Range lo hi limit)
-IsPending C task (asks.Commit entry) =
+IsAskPending C task (asks.Commit entry) =
     (task.waiting ≡ waits.Committing entry.reply) × (task.begun ≡ true) × (entry.request ≡ task.request)
     × (entry.reads ≡ task.reads) × IsSoundEntry C entry
     × HasRead C (λ T. footprint C T task.request) task.reads
-IsPending C task ask = ⊥
+IsAskPending C task ask = ⊥
 
 -- ---- the end
 
@@ -152,8 +152,8 @@ pub record CameTo (C : Settings) (attempts : ℕ) (journal : List Entry) (reques
       (λ place entry. front ≤ place → (outcome.committed ≡ true) × (outcome.version ≡ place + 1))
 
 -- after an answer: the next ask waits, or there is an outcome
-abbrev pub IsReady : Settings → ℕ → List Entry → Request → ℕ → TaskView → Ask → Type 0
-IsReady C attempts journal request front task asks.Done =
+abbrev pub IsTaskReady : Settings → ℕ → List Entry → Request → ℕ → TaskView → Ask → Type 0
+IsTaskReady C attempts journal request front task asks.Done =
     (outcome : Outcome) × (task.outcome ≡ Some outcome) × CameTo C attempts journal request front outcome
-IsReady C attempts journal request front task ask =
-    IsServed C attempts journal request front task × IsPending C task ask
+IsTaskReady C attempts journal request front task ask =
+    IsTaskServed C attempts journal request front task × IsAskPending C task ask

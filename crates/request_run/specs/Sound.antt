@@ -6,6 +6,6 @@ use Rattle.row_tree.specs.HasTree.{HasTree}
 use Rattle.row_tree.specs.Opening.{opening_bytes}
 use Rattle.tree_model.specs.Tree.{new_tree}
 
-pub record IsOpen (store : Store MetaEntry) : Type 0 where
+pub record IsStoreOpening (store : Store MetaEntry) : Type 0 where
   pub opening : store.opening ≡ opening_bytes store.config
   pub tree : HasTree store.config (opening_bytes store.config) (new_tree store.config)

@@ -1,20 +1,20 @@
 //! One ask, answered by the store.
 
 ghost use Rattle.std.specs.Prelude.{◌≡◌, ◌⊎◌, ◌≤◌, ◌<◌, ◌^◌, ℕ, length, IfOk, IfErr, OnOk};
-ghost use Rattle.conflict_sets.specs.Reads.{Agrees};
+ghost use Rattle.conflict_sets.specs.Reads.{RowsAgree};
 ghost use Rattle.key_schema.specs.Keys.{IsKeyOf, IsSpellable};
 ghost use Rattle.key_schema.specs.declared.key.Key.{Key};
-ghost use Rattle.kv_store.specs.Causes.{HasCause};
+ghost use Rattle.kv_store.specs.Causes.{HasCommitCause};
 ghost use Rattle.kv_store.specs.Journal.{first_later};
 ghost use Rattle.path_walk.specs.Sound.{IsSoundEntry};
 ghost use Rattle.run_record.specs.Legal.{journal_rows, writes_of};
 ghost use Rattle.txn_task.specs.declared.messages.Answer.TheVariants as answers;
 ghost use Rattle.txn_task.specs.declared.messages.Ask.{Ask};
 ghost use Rattle.txn_task.specs.declared.messages.Entry.{Entry};
-ghost use Rattle.request_run.specs.Answered.{HasKey, IsAnswer, IsKeyed, IsSpelled, MayAnswer, Tells};
-ghost use Rattle.request_run.specs.Entries.{entries_of, with_entry};
+ghost use Rattle.request_run.specs.Answered.{HasKey, IsAnswer, IsKeyed, IsAskSpellable, MayAnswer, Tells};
+ghost use Rattle.request_run.specs.Entries.{entries_of, store_with_entry};
 ghost use Rattle.run_record.specs.Sound.{IsSoundJournal};
-ghost use Rattle.request_run.specs.Sound.{IsOpen};
+ghost use Rattle.request_run.specs.Sound.{IsStoreOpening};
 
 use fs_base::limits::JOURNAL_ENTRIES;
 use fs_base::{ClientId, Memory, Text};
@@ -26,7 +26,7 @@ use txn_task::{Answer, Ask, Entry};
 
 /// Tells what every store keeps that began with the root alone. It does nothing.
 pub fn sound_store(store: &KvState<MetaEntry>)
-    requires { IsOpen store.now }
+    requires { IsStoreOpening store.now }
     ensures sound { IsSoundJournal store.now.config (entries_of store.now.journal) }
     ensures few { length store.now.journal ≤ JOURNAL_ENTRIES }
 {
@@ -72,7 +72,7 @@ fn get(
     snapshot: u64,
     key: &Key,
 ) -> Result<Answer, Memory>
-    requires open { IsOpen store.now }
+    requires open { IsStoreOpening store.now }
     requires snapshot { snapshot ≤ length (entries_of store.now.journal) }
     ensures answer { IfOk result
         (λ a. IsAnswer store.now.config (entries_of store.now.journal) (entries_of store.now.journal) snapshot
@@ -92,7 +92,7 @@ fn range(
     hi: &Text,
     limit: u32,
 ) -> Result<Answer, Memory>
-    requires open { IsOpen store.now }
+    requires open { IsStoreOpening store.now }
     requires snapshot { snapshot ≤ length (entries_of store.now.journal) }
     ensures { IfOk result
         (λ a. IsAnswer store.now.config (entries_of store.now.journal) (entries_of store.now.journal) snapshot
@@ -112,17 +112,17 @@ fn cause_of(refused: Refused<MetaEntry>) -> CommitError
 
 /// Adds an entry, or tells why it can't be.
 fn commit(store: &mut KvState<MetaEntry>, snapshot: u64, entry: Entry) -> Result<u64, CommitError>
-    requires open { IsOpen store.old }
+    requires open { IsStoreOpening store.old }
     requires snapshot { snapshot ≤ length (entries_of store.old.journal) }
     requires sound { IsSoundEntry store.old.config entry }
-    requires agreed { Agrees (journal_rows store.old.config (entries_of store.old.journal) snapshot) entry.reads }
-    ensures grown { OnOk result (store.new ≡ with_entry store.old entry) }
+    requires agreed { RowsAgree (journal_rows store.old.config (entries_of store.old.journal) snapshot) entry.reads }
+    ensures grown { OnOk result (store.new ≡ store_with_entry store.old entry) }
     ensures same { IfErr result (λ _. store.new ≡ store.old) }
     ensures ok { IfOk result
         (λ version. IsAnswer store.old.config (entries_of store.old.journal) (entries_of store.new.journal)
         snapshot (Ask.Commit entry) (answers.Committed version)) }
     ensures cause { IfErr result
-        (λ why. HasCause (first_later writes_of (entries_of store.old.journal) snapshot entry.reads)
+        (λ why. HasCommitCause (first_later writes_of (entries_of store.old.journal) snapshot entry.reads)
         (length (entries_of store.old.journal)) why) }
     ensures keyed { IfErr result IsKeyed }
 {
@@ -168,15 +168,15 @@ fn commit_answer(
     snapshot: u64,
     entry: Entry,
 ) -> Result<Answer, Memory>
-    requires open { IsOpen store.old }
+    requires open { IsStoreOpening store.old }
     requires snapshot { snapshot ≤ length (entries_of store.old.journal) }
     requires sound { IsSoundEntry store.old.config entry }
-    requires agreed { Agrees (journal_rows store.old.config (entries_of store.old.journal) snapshot) entry.reads }
+    requires agreed { RowsAgree (journal_rows store.old.config (entries_of store.old.journal) snapshot) entry.reads }
     ensures answer { IfOk result
         (λ a. IsAnswer store.old.config (entries_of store.old.journal) (entries_of store.new.journal) snapshot
         (Ask.Commit entry) a) }
     ensures key { IfOk result HasKey }
-    ensures grows { (store.new ≡ store.old) ⊎ (store.new ≡ with_entry store.old entry) }
+    ensures grows { (store.new ≡ store.old) ⊎ (store.new ≡ store_with_entry store.old entry) }
 {
     match commit(store, snapshot, entry) {
         Ok(version) => Ok(Answer::Committed(version)),
@@ -194,15 +194,15 @@ pub fn answer(
     snapshot: u64,
     ask: Ask,
 ) -> Result<Answer, Memory>
-    requires open { IsOpen store.old }
+    requires open { IsStoreOpening store.old }
     requires may { MayAnswer store.old.config (entries_of store.old.journal) snapshot ask }
     ensures answer { IfOk result
         (λ a. IsAnswer store.old.config (entries_of store.old.journal) (entries_of store.new.journal) snapshot
         ask a) }
     ensures key { IfOk result HasKey }
-    ensures spelled { IsSpelled ask }
+    ensures spelled { IsAskSpellable ask }
     ensures grows { (store.new ≡ store.old)
-        ⊎ ((entry : Entry) × (ask ≡ Ask.Commit entry) × (store.new ≡ with_entry store.old entry)) }
+        ⊎ ((entry : Entry) × (ask ≡ Ask.Commit entry) × (store.new ≡ store_with_entry store.old entry)) }
 {
     match ask {
         Ask::Begin => Ok(Answer::Begun(store.front())),

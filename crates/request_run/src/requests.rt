@@ -6,8 +6,8 @@ ghost use Rattle.meta_task.specs.declared.waiting.Waiting.TheVariants as waits;
 ghost use Rattle.path_walk.specs.Requests.{IsRequest};
 ghost use Rattle.request_run.specs.Answered.{IsExchange};
 ghost use Rattle.request_run.specs.Entries.{IsGrowth, entries_of};
-ghost use Rattle.request_run.specs.Served.{AreCovered, AreEarlier, IsPending, IsReady, IsServed};
-ghost use Rattle.request_run.specs.Sound.{IsOpen};
+ghost use Rattle.request_run.specs.Served.{AreCovered, AreEarlier, IsAskPending, IsTaskReady, IsTaskServed};
+ghost use Rattle.request_run.specs.Sound.{IsStoreOpening};
 ghost use Rattle.txn_task.specs.declared.messages.Ask.TheVariants as asks;
 
 use crate::answers::sound_store;
@@ -47,7 +47,7 @@ pub fn begin(
     ensures ask { IfOk result (λ begun. begun.ask ≡ asks.Begin) }
     ensures front { IfOk result (λ begun. begun.front ≡ length (entries_of store.now.journal)) }
     ensures served { IfOk result
-        (λ begun. IsReady config attempts (entries_of store.now.journal) request begun.front begun.task
+        (λ begun. IsTaskReady config attempts (entries_of store.now.journal) request begun.front begun.task
         begun.ask) }
 {
     let mut task = MetaTask::new(alloc, request, config, attempts)?;
@@ -65,12 +65,12 @@ pub fn serve(
     store: &mut KvState<MetaEntry>,
     serving: Serving,
 ) -> Result<Serving, Memory>
-    requires opened { IsOpen store.old }
-    requires served { IsServed store.old.config serving.task.attempts (entries_of store.old.journal) serving.task.request
+    requires opened { IsStoreOpening store.old }
+    requires served { IsTaskServed store.old.config serving.task.attempts (entries_of store.old.journal) serving.task.request
         serving.front serving.task }
-    requires pending { IsPending store.old.config serving.task serving.ask }
+    requires pending { IsAskPending store.old.config serving.task serving.ask }
     ensures served { IfOk result
-        (λ next. IsReady store.old.config serving.task.attempts (entries_of store.new.journal)
+        (λ next. IsTaskReady store.old.config serving.task.attempts (entries_of store.new.journal)
         serving.task.request serving.front next.task next.ask) }
     ensures exchanged { IfOk result
         (λ next. IsExchange store.old.config (entries_of store.old.journal) (entries_of store.new.journal)

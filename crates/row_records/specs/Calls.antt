@@ -147,5 +147,5 @@ spelled_call = stamped_call.spelled
 abbrev pub is_call : ℕ × Call → Bool
 is_call = stamped_call.fits
 
-abbrev pub call_of : List ℕ → Result (ℕ × Call) ℕ
-call_of bytes = whole stamped_call bytes
+abbrev pub read_call : List ℕ → Result (ℕ × Call) ℕ
+read_call bytes = whole stamped_call bytes

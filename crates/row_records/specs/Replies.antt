@@ -16,7 +16,7 @@ use Rattle.fs_base.specs.declared.reply.FileInfo.{FileInfo}
 use Rattle.fs_base.specs.declared.reply.Reply.{Reply}
 use Rattle.fs_base.specs.declared.reply.Reply.TheVariants as replies
 use Rattle.byte_fields.specs.Forms.{Form, nothing, paired, shaped, listed, anywhere, Arm, arm, Tagged, tagged, choice, whole}
-use Rattle.byte_fields.specs.Fields.{number_1, number_2, number_4, number_8, inode_id, mode, time, file_size, layout_of, kind, text}
+use Rattle.byte_fields.specs.Fields.{number_1, number_2, number_4, number_8, inode_id, mode, time, file_size, layout_form, kind, text}
 
 -- what `stat` tells: which inode, whose, and when it was used
 unfoldable pub identity : Form (ℕ × (Kind × ℕ))
@@ -58,7 +58,7 @@ names = listed number_8 entry anywhere
 
 -- a layout as it was told: each number as wide as it is
 unfoldable pub told_layout : Form Layout
-told_layout = layout_of number_4 number_2 number_2 number_8
+told_layout = layout_form number_4 number_2 number_2 number_8
 
 unfoldable pub file_info : Form FileInfo
 file_info =
@@ -239,5 +239,5 @@ spelled_reply = reply.spelled
 abbrev pub is_reply : Reply → Bool
 is_reply = reply.fits
 
-abbrev pub reply_of : List ℕ → Result Reply ℕ
-reply_of bytes = whole reply bytes
+abbrev pub read_reply : List ℕ → Result Reply ℕ
+read_reply bytes = whole reply bytes

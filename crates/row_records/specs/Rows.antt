@@ -55,8 +55,8 @@ spelled_dent = dent.spelled
 abbrev pub is_dent : DentRow → Bool
 is_dent = dent.fits
 
-abbrev pub dent_of : List ℕ → Result DentRow ℕ
-dent_of bytes = whole dent bytes
+abbrev pub read_dent : List ℕ → Result DentRow ℕ
+read_dent bytes = whole dent bytes
 
 abbrev pub spelled_session : SessionRow → List ℕ
 spelled_session = session_row.spelled
@@ -64,8 +64,8 @@ spelled_session = session_row.spelled
 abbrev pub is_session : SessionRow → Bool
 is_session = session_row.fits
 
-abbrev pub session_of : List ℕ → Result SessionRow ℕ
-session_of bytes = whole session_row bytes
+abbrev pub read_session : List ℕ → Result SessionRow ℕ
+read_session bytes = whole session_row bytes
 
 abbrev pub spelled_kept : KeptRow → List ℕ
 spelled_kept = kept.spelled
@@ -73,8 +73,8 @@ spelled_kept = kept.spelled
 abbrev pub is_kept : KeptRow → Bool
 is_kept = kept.fits
 
-abbrev pub kept_of : List ℕ → Result KeptRow ℕ
-kept_of bytes = whole kept bytes
+abbrev pub read_kept : List ℕ → Result KeptRow ℕ
+read_kept bytes = whole kept bytes
 
 abbrev pub spelled_alloc : AllocRow → List ℕ
 spelled_alloc = alloc_row.spelled
@@ -82,8 +82,8 @@ spelled_alloc = alloc_row.spelled
 abbrev pub is_alloc : AllocRow → Bool
 is_alloc = alloc_row.fits
 
-abbrev pub alloc_of : List ℕ → Result AllocRow ℕ
-alloc_of bytes = whole alloc_row bytes
+abbrev pub read_alloc : List ℕ → Result AllocRow ℕ
+read_alloc bytes = whole alloc_row bytes
 
 abbrev pub spelled_gc : GcRow → List ℕ
 spelled_gc = gc.spelled
@@ -91,5 +91,5 @@ spelled_gc = gc.spelled
 abbrev pub is_gc : GcRow → Bool
 is_gc = gc.fits
 
-abbrev pub gc_of : List ℕ → Result GcRow ℕ
-gc_of bytes = whole gc bytes
+abbrev pub read_gc : List ℕ → Result GcRow ℕ
+read_gc bytes = whole gc bytes

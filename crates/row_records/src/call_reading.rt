@@ -1,8 +1,8 @@
 ghost use Rattle.std.specs.Prelude.{◌≡◌};
 ghost use Rattle.fs_base.specs.Gives.{Gives};
 ghost use Rattle.byte_fields.specs.Forms.{reads_arm};
-ghost use Rattle.byte_fields.specs.Outcome.{left_of, place_of};
-ghost use Rattle.row_records.specs.Calls.{made, query_arms, making_arms, naming_arms, writing_arms, deleting_arms, moving_arms, call, stamped_call, call_of};
+ghost use Rattle.byte_fields.specs.Outcome.{left_of, fault_place};
+ghost use Rattle.row_records.specs.Calls.{made, query_arms, making_arms, naming_arms, writing_arms, deleting_arms, moving_arms, call, stamped_call, read_call};
 
 use crate::fields::{changes, layout_option, place, session, span};
 use crate::lists::clients;
@@ -12,7 +12,7 @@ use std::alloc::Global;
 
 /// The stamp and the call that all the bytes spell.
 pub fn call_read(alloc: Global, bytes: &[u8]) -> Result<(u64, Call), RowError>
-    ensures { Gives place_of (λ call. call) result (call_of bytes.now) }
+    ensures { Gives fault_place (λ call. call) result (read_call bytes.now) }
 {
     let mut cursor = Cursor::new(bytes);
     let read = stamped_call(alloc, &mut cursor);

@@ -1,8 +1,8 @@
 ghost use Rattle.std.specs.Prelude.{◌≡◌};
 ghost use Rattle.fs_base.specs.Gives.{Gives};
 ghost use Rattle.byte_fields.specs.Forms.{reads_arm};
-ghost use Rattle.byte_fields.specs.Outcome.{left_of, place_of};
-ghost use Rattle.row_records.specs.Replies.{found_arms, file_arms, count_arms, path_arms, inode_arms, code_arms, reply, reply_of};
+ghost use Rattle.byte_fields.specs.Outcome.{left_of, fault_place};
+ghost use Rattle.row_records.specs.Replies.{found_arms, file_arms, count_arms, path_arms, inode_arms, code_arms, reply, read_reply};
 
 use crate::fields::{adopted, attributes, file_info, limit};
 use crate::lists::{data_runs, doomed, names};
@@ -12,7 +12,7 @@ use std::alloc::Global;
 
 /// The reply that all the bytes spell.
 pub fn reply_read(alloc: Global, bytes: &[u8]) -> Result<Reply, RowError>
-    ensures { Gives place_of (λ reply. reply) result (reply_of bytes.now) }
+    ensures { Gives fault_place (λ reply. reply) result (read_reply bytes.now) }
 {
     let mut cursor = Cursor::new(bytes);
     let read = reply(alloc, &mut cursor);

@@ -1,7 +1,7 @@
 ghost use Rattle.std.specs.Prelude.{◌≡◌, ◌++◌, IfOk, OnOk};
 ghost use Rattle.fs_base.specs.Gives.{Gives};
-ghost use Rattle.byte_fields.specs.Outcome.{left_of, place_of, NeedsNoMemory};
-ghost use Rattle.row_records.specs.Rows.{dent, session_row, kept, alloc_row, by_phase, gc, spelled_dent, dent_of, spelled_session, session_of, spelled_kept, kept_of, spelled_alloc, alloc_of, spelled_gc, gc_of};
+ghost use Rattle.byte_fields.specs.Outcome.{left_of, fault_place, NeedsNoMemory};
+ghost use Rattle.row_records.specs.Rows.{dent, session_row, kept, alloc_row, by_phase, gc, spelled_dent, read_dent, spelled_session, read_session, spelled_kept, read_kept, spelled_alloc, read_alloc, spelled_gc, read_gc};
 
 use crate::reply_reading::reply;
 use crate::reply_writing::put_reply;
@@ -61,8 +61,8 @@ impl DentRow {
 
     /// The row that all the bytes spell.
     pub fn read(_alloc: Global, bytes: &[u8]) -> Result<DentRow, RowError>
-        ensures gives { Gives place_of (λ row. row) result (dent_of bytes.now) }
-        ensures memory { NeedsNoMemory place_of result }
+        ensures gives { Gives fault_place (λ row. row) result (read_dent bytes.now) }
+        ensures memory { NeedsNoMemory fault_place result }
     {
         let mut cursor = Cursor::new(bytes);
         let row = dent(&mut cursor);
@@ -95,8 +95,8 @@ impl SessionRow {
 
     /// The row that all the bytes spell.
     pub fn read(_alloc: Global, bytes: &[u8]) -> Result<SessionRow, RowError>
-        ensures gives { Gives place_of (λ row. row) result (session_of bytes.now) }
-        ensures memory { NeedsNoMemory place_of result }
+        ensures gives { Gives fault_place (λ row. row) result (read_session bytes.now) }
+        ensures memory { NeedsNoMemory fault_place result }
     {
         let mut cursor = Cursor::new(bytes);
         let row = session(&mut cursor);
@@ -129,7 +129,7 @@ impl KeptRow {
 
     /// The row that all the bytes spell.
     pub fn read(alloc: Global, bytes: &[u8]) -> Result<KeptRow, RowError>
-        ensures { Gives place_of (λ row. row) result (kept_of bytes.now) }
+        ensures { Gives fault_place (λ row. row) result (read_kept bytes.now) }
     {
         let mut cursor = Cursor::new(bytes);
         let row = kept(alloc, &mut cursor);
@@ -161,8 +161,8 @@ impl AllocRow {
 
     /// The row that all the bytes spell.
     pub fn read(_alloc: Global, bytes: &[u8]) -> Result<AllocRow, RowError>
-        ensures gives { Gives place_of (λ row. row) result (alloc_of bytes.now) }
-        ensures memory { NeedsNoMemory place_of result }
+        ensures gives { Gives fault_place (λ row. row) result (read_alloc bytes.now) }
+        ensures memory { NeedsNoMemory fault_place result }
     {
         let mut cursor = Cursor::new(bytes);
         let row = next(&mut cursor);
@@ -207,8 +207,8 @@ impl GcRow {
 
     /// The row that all the bytes spell.
     pub fn read(_alloc: Global, bytes: &[u8]) -> Result<GcRow, RowError>
-        ensures gives { Gives place_of (λ row. row) result (gc_of bytes.now) }
-        ensures memory { NeedsNoMemory place_of result }
+        ensures gives { Gives fault_place (λ row. row) result (read_gc bytes.now) }
+        ensures memory { NeedsNoMemory fault_place result }
     {
         let mut cursor = Cursor::new(bytes);
         let row = gc(&mut cursor);

@@ -15,7 +15,7 @@ use Rattle.tree_model.specs.Creating.{with_child}
 use Rattle.tree_model.proofs.MapLaws.{ids, names, some_or_none, not_some, some_injective, get-set_same, get-set_other, get-set_cases, count-set, count-none, one_if, map_values-set}
 use Rattle.row_tree.specs.TypedRows.{TypedRows, kind_of, parent_of, parent_at, entries_to, is_to}
 use Rattle.row_tree.specs.TreeOf.{tree_of, node_of}
-use Rattle.row_tree.specs.WellFormed.{IsPath, IsGiven, HasKind, IsEntry, IsLinked, FitsConfig, IsDoomed, IsWellFormed}
+use Rattle.row_tree.specs.WellFormed.{IsPath, IsIdGiven, HasKind, IsEntry, IsLinked, FitsConfig, IsDoomed, IsWellFormed}
 use Rattle.row_tree.specs.Steps.{next_id, MayAdd, with_node}
 
 -- what has a parent has a row that names it
@@ -51,7 +51,7 @@ module _ (C : Settings) (S : TypedRows) (good : IsWellFormed C S) (server dir : 
   entry_row = record { inode = next_id S server; kind = kind_of row.part }
 
   -- no row has the id that comes next
-  not_given : IsGiven S (next_id S server) → ⊥
+  not_given : IsIdGiven S (next_id S server) → ⊥
   not_given given =
       let small : server < 16 = may.in_range in
       let place : (16 * next_at S.next server + server) / 16 ≡ next_at S.next server = omega arith in
@@ -85,7 +85,7 @@ module _ (C : Settings) (S : TypedRows) (good : IsWellFormed C S) (server dir : 
   path_stays id [] h = h
   path_stays id (parent ∷ path) h = (parent_stays id parent h.0, path_stays parent path h.1)
 
-  given_stays : (id : ℕ) → IsGiven S id → IsGiven after id
+  given_stays : (id : ℕ) → IsIdGiven S id → IsIdGiven after id
   given_stays id given = (given.0, later (get-set_cases ids S.next server (Some (next_at S.next server + 1)) (id % 16)))
     where
       later : ((r : Option ℕ) → get (insert S.next server (next_at S.next server + 1)) (id % 16) ≡ r → ((id % 16 ≡ server) × (Some (next_at S.next server + 1) ≡ r)) ⊎ ((id % 16 ≢ server) × (get S.next (id % 16) ≡ r))) → id / 16 < next_at (insert S.next server (next_at S.next server + 1)) (id % 16)
@@ -94,7 +94,7 @@ module _ (C : Settings) (S : TypedRows) (good : IsWellFormed C S) (server dir : 
         | inr h ↦ let same = ap (λ o. unwrap_or o 1) h.1 in let was = given.1 in omega arith
       ]
 
-  given_new : IsGiven after (next_id S server)
+  given_new : IsIdGiven after (next_id S server)
   given_new =
       let small = may.in_range in
       let one = next_from_one C S good server in
@@ -185,11 +185,11 @@ module _ (C : Settings) (S : TypedRows) (good : IsWellFormed C S) (server dir : 
         }
   ]
 
-  doomed_after : (id : ℕ) (g : GcRow) → get S.doomed id ≡ Some g → IsDoomed C after id g × IsGiven after id
+  doomed_after : (id : ℕ) (g : GcRow) → get S.doomed id ≡ Some g → IsDoomed C after id g × IsIdGiven after id
   doomed_after id Waiting is = let old = good.doomed id Waiting is in ((old.0.0, stays id old.0.0 old.0.1, old.0.2, old.0.3), given_stays id old.1)
   doomed_after id (Purged layout hint) is =
       let old = good.doomed id (Purged layout hint) is in (
-        (get-set_other ids S.inodes (next_id S server) (Some row) id (λ e. not_given (subst (IsGiven S) e old.1)) ∙ old.0.0, old.0.1, old.0.2, old.0.3),
+        (get-set_other ids S.inodes (next_id S server) (Some row) id (λ e. not_given (subst (IsIdGiven S) e old.1)) ∙ old.0.0, old.0.1, old.0.2, old.0.3),
         given_stays id old.1,
       )
 

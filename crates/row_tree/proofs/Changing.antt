@@ -15,7 +15,7 @@ use Rattle.row_records.specs.declared.rows.KeptRow.{KeptRow}
 use Rattle.tree_model.proofs.MapLaws.{ids, some_injective, not_some, same_some, get-set_same, get-set_other, get-set_cases, decide, map_values-set}
 use Rattle.row_tree.specs.TypedRows.{TypedRows, kind_of, parent_of, parent_at}
 use Rattle.row_tree.specs.TreeOf.{tree_of, node_of, kept_of}
-use Rattle.row_tree.specs.WellFormed.{IsPath, IsGiven, HasKind, IsEntry, IsLinked, IsRootRow, FitsConfig, IsDoomed, IsWellFormed}
+use Rattle.row_tree.specs.WellFormed.{IsPath, IsIdGiven, HasKind, IsEntry, IsLinked, IsRootRow, FitsConfig, IsDoomed, IsWellFormed}
 use Rattle.row_tree.specs.Steps.{MayChange, with_row, with_kept}
 use Rattle.row_tree.proofs.Adding.{parent_row, parent_at_row}
 
@@ -114,7 +114,7 @@ module _ (C : Settings) (S : TypedRows) (good : IsWellFormed C S) (id : ℕ) (ol
         inside = λ is_dir. parent_stays e.inode dir (entry.inside is_dir);
       }
 
-  doomed_after : (x : ℕ) (g : GcRow) → get S.doomed x ≡ Some g → IsDoomed C after x g × IsGiven after x
+  doomed_after : (x : ℕ) (g : GcRow) → get S.doomed x ≡ Some g → IsDoomed C after x g × IsIdGiven after x
   doomed_after x Waiting is =
       let doomed = good.doomed x Waiting is in
       let new = same_after x doomed.0.0 doomed.0.1 in

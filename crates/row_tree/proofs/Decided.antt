@@ -16,8 +16,8 @@ use Rattle.row_records.specs.declared.rows.GcRow.TheVariants.{Waiting, Purged}
 use Rattle.tree_model.specs.Tree.{next_at}
 use Rattle.tree_model.proofs.MapLaws.{ids, names, holders}
 use Rattle.row_tree.specs.TypedRows.{TypedRows, kind_of, parent_at, entries_to}
-use Rattle.row_tree.specs.WellFormed.{HasKind, IsGiven, IsPath, IsEntry, IsLinked, IsRootRow, IsLayout, FitsConfig, IsDoomed, IsWellFormed}
-use Rattle.row_tree.specs.Deciding.{some_passes, is_kind, has_kind, is_given, names_root, is_root_row, root_test, is_waiting, counts_fit, is_linked, linked_test, is_layout, is_used, fits_config, fits_test, goes_up, climbs, leads_test, is_entry, entry_test, is_unlinked_file, is_doomed, doomed_test, session_test, number_test, numbers_test, rows_test}
+use Rattle.row_tree.specs.WellFormed.{HasKind, IsIdGiven, IsPath, IsEntry, IsLinked, IsRootRow, IsFileLayout, FitsConfig, IsDoomed, IsWellFormed}
+use Rattle.row_tree.specs.Deciding.{some_passes, is_kind, has_kind, is_given, names_root, is_root_row, root_test, is_waiting, counts_fit, is_linked, linked_test, is_file_layout, is_used, fits_config, fits_test, goes_up, climbs, leads_test, is_entry, entry_test, is_unlinked_file, is_doomed, doomed_test, session_test, number_test, numbers_test, rows_test}
 use Rattle.row_tree.proofs.Decides.{IsTest, decides_eq, decides_le, decides_lt, decides_true, decides_and, decides_not, decides_then, decides_unless, decides_as, decides_some, decides_each}
 use Rattle.row_tree.proofs.Ways.{IsWay, or_true, way_of_path, way_short}
 
@@ -35,7 +35,7 @@ kind_decided kinds.Link kinds.File = record { holds = λ h. cc; pass = λ e. cc 
 pub has_kind_decided : (S : TypedRows) (id : ℕ) (kind : Kind) → IsTest (has_kind S id kind) (HasKind S id kind)
 has_kind_decided S id kind = decides_some (λ row. is_kind (kind_of row.part) kind) (get S.inodes id) (λ row. kind_decided (kind_of row.part) kind)
 
-pub given_decided : (S : TypedRows) (id : ℕ) → IsTest (is_given S id) (IsGiven S id)
+pub given_decided : (S : TypedRows) (id : ℕ) → IsTest (is_given S id) (IsIdGiven S id)
 given_decided S id = decides_and _ _ (decides_le 1 (id / 16)) (decides_lt (id / 16) (next_at S.next (id % 16)))
 
 -- ---- the root
@@ -94,14 +94,14 @@ linked_decided S = decides_each ids (λ id row. (id == 0) || is_linked S id row)
 
 -- ---- layouts
 
-layout_decided : (C : Settings) (id : ℕ) (layout : Layout) → IsTest (is_layout C id layout) (IsLayout C id layout)
+layout_decided : (C : Settings) (id : ℕ) (layout : Layout) → IsTest (is_file_layout C id layout) (IsFileLayout C id layout)
 layout_decided C id layout =
     let given : DefaultLayout = record { chunk = layout.chunk; stripe = layout.stripe } in
     decides_as (decides_and (admits C given) _ (decides_true (admits C given)) (decides_and _ _ (decides_eq layout.start (id % C.chains)) (decides_eq layout.mix id)))
     (λ h. (h.0, λ i. record { chunk = layout.chunk; stripe = layout.stripe; start = h.1.0 i; mix = h.1.1 i }))
     (λ h. (h.0, (ap (λ (l : Layout). l.start) h.1, ap (λ (l : Layout). l.mix) h.1)))
 
-used_decided : (C : Settings) (id : ℕ) (layout : Layout) (hint : ℕ) → IsTest (is_used C id layout hint) (IsLayout C id layout × (1 ≤ hint) × (hint ≤ layout.stripe))
+used_decided : (C : Settings) (id : ℕ) (layout : Layout) (hint : ℕ) → IsTest (is_used C id layout hint) (IsFileLayout C id layout × (1 ≤ hint) × (hint ≤ layout.stripe))
 used_decided C id layout hint =
     decides_as (decides_and _ _ (layout_decided C id layout) (decides_and _ _ (decides_le 1 hint) (decides_le hint layout.stripe)))
     (λ h. (h.0, h.1.0, h.1.1)) (λ h. (h.0, (h.1, h.2)))
@@ -186,7 +186,7 @@ doomed_row_decided C S id (Purged layout hint) =
     decides_as (decides_and _ _ (none_decided (get S.inodes id)) (used_decided C id layout hint))
     (λ h. (h.0, h.1.0, h.1.1, h.1.2)) (λ h. (h.0, (h.1, h.2, h.3)))
 
-pub doomed_decided : (C : Settings) (S : TypedRows) → IsTest (doomed_test C S) ((id : ℕ) (g : GcRow) → get S.doomed id ≡ Some g → IsDoomed C S id g × IsGiven S id)
+pub doomed_decided : (C : Settings) (S : TypedRows) → IsTest (doomed_test C S) ((id : ℕ) (g : GcRow) → get S.doomed id ≡ Some g → IsDoomed C S id g × IsIdGiven S id)
 doomed_decided C S = decides_each ids (λ id row. is_doomed C S id row && is_given S id) S.doomed (λ id g is. decides_and _ _ (doomed_row_decided C S id g) (given_decided S id))
 
 pub session_decided : (S : TypedRows) → IsTest (session_test S) ((inode client number stamp : ℕ) → get S.sessions (inode, (client, number)) ≡ Some stamp → HasKind S inode kinds.File)

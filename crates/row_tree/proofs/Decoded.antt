@@ -5,10 +5,10 @@ use Rattle.std.specs.Option.{option_map, option_and_then}
 use Rattle.key_schema.specs.declared.key.Key.{Key}
 use Rattle.key_schema.specs.declared.key.Key.TheVariants as keys
 use Rattle.row_tree.specs.Values.{Value, AllocValue, DentValue, GcValue, KeptValue, InodeValue, SessionValue, as_inode, as_dent, as_session, as_kept, as_gc, as_alloc}
-use Rattle.row_tree.specs.TypedRows.{TypedRows, lookup, write, of_form}
+use Rattle.row_tree.specs.TypedRows.{TypedRows, value_at, write, of_form}
 use Rattle.tree_model.proofs.MapLaws.{ids, names, holders, get-set_same, get-set_other}
 
-pub lookup-write_same : (S : TypedRows) (k : Key) (w : Option Value) → lookup (write S k w) k ≡ option_and_then (of_form k) w
+pub lookup-write_same : (S : TypedRows) (k : Key) (w : Option Value) → value_at (write S k w) k ≡ option_and_then (of_form k) w
 lookup-write_same S (keys.Alloc s) w = ap (option_map AllocValue) (get-set_same ids S.next s (option_and_then as_alloc w)) ∙ joined w
   where
     joined : (w : Option Value) → option_map AllocValue (option_and_then as_alloc w) ≡ option_and_then (of_form (keys.Alloc s)) w
@@ -40,7 +40,7 @@ lookup-write_same S (keys.Session i c n) w = ap (option_map SessionValue) (get-s
     joined None = refl
     joined (Some v) = refl
 
-pub lookup-write_other : (S : TypedRows) (k : Key) (w : Option Value) (q : Key) → q ≢ k → lookup (write S k w) q ≡ lookup S q
+pub lookup-write_other : (S : TypedRows) (k : Key) (w : Option Value) (q : Key) → q ≢ k → value_at (write S k w) q ≡ value_at S q
 lookup-write_other S (keys.Alloc s) w (keys.Alloc t) ne = ap (option_map AllocValue) (get-set_other ids S.next s (option_and_then as_alloc w) t (λ e. ne (ap keys.Alloc e)))
 lookup-write_other S (keys.Dent d n) w (keys.Dent e m) ne = ap (option_map DentValue) (get-set_other names S.dents (d, n) (option_and_then as_dent w) (e, m) (λ q. ne (ap (λ (x : ℕ × List ℕ). keys.Dent x.0 x.1) q)))
 lookup-write_other S (keys.Gc i) w (keys.Gc j) ne = ap (option_map GcValue) (get-set_other ids S.doomed i (option_and_then as_gc w) j (λ e. ne (ap keys.Gc e)))

@@ -20,13 +20,13 @@ use Rattle.conflict_sets.proofs.RowLemmas.{by_place}
 use Rattle.row_records.specs.declared.rows.DentRow.{DentRow}
 use Rattle.key_schema.specs.declared.key.Key.TheVariants as keys
 use Rattle.row_tree.specs.Values.{DentValue, spelled_value}
-use Rattle.row_tree.specs.TypedRows.{TypedRows, in_dir, dir_rows}
+use Rattle.row_tree.specs.TypedRows.{TypedRows, named_in_dir, dir_rows}
 use Rattle.tree_model.specs.Maps.{dent_cmp}
 use Rattle.tree_model.proofs.MapLaws.{decide, both_first, both_second, names}
 use Rattle.key_schema.specs.Keys.{spelled_key}
 use Rattle.key_schema.specs.Ranges.{dir_prefix, raised}
 use Rattle.conflict_sets.specs.Ranges.{range_rows, key_after, last_key}
-use Rattle.row_tree.specs.Spelling.{Spells, spelled_dent}
+use Rattle.row_tree.specs.Spelling.{Spells, spelled_dent_row}
 use Rattle.conflict_sets.proofs.RowRanges.{same_rows, IsAscending-range_rows, value-range_rows, key_cmp-append, next_page, not_true}
 use Rattle.row_tree.proofs.Prefixes.{inside_prefix, prefix_of}
 use Rattle.row_tree.proofs.SpellingLaws.{at_any}
@@ -61,7 +61,7 @@ in_dir_range : (d : ℕ) (q : List ℕ) → is_inside (dir_prefix d) (raised (di
 in_dir_range d q t = prefix_of 68 (codes "ENT" ++ to_le_bytes w64 d) q t
 
 abbrev dents_of : ℕ → List ((ℕ × List ℕ) × DentRow) → List Row
-dents_of d es = map (spelled_dent d) (filter_map (in_dir d) es)
+dents_of d es = map (spelled_dent_row d) (filter_map (named_in_dir d) es)
 
 -- what the spelled rows of a directory have at a name
 value_dents : (d : ℕ) (n : List ℕ) (es : List ((ℕ × List ℕ) × DentRow)) → value_at_key (dents_of d es) (spelled_key (keys.Dent d n)) ≡ option_map spelled_value (option_map DentValue (find dent_cmp (d, n) es))
@@ -76,12 +76,12 @@ value_dents d n (e ∷ es) = by_dir (e.0.0 == d) refl (value_dents d n es)
         → value_at_key (dents_of d (e ∷ es)) (spelled_key (keys.Dent d n)) ≡ option_map spelled_value (option_map DentValue (find dent_cmp (d, n) (e ∷ es)))
     by_dir true is later =
         let same : e.0.0 ≡ d = eqb-true e.0.0 d is in
-        ap (λ b. value_at_key (map (spelled_dent d) (cons_option (cond b (Some (e.0.1, e.1)) None) (filter_map (in_dir d) es))) (spelled_key (keys.Dent d n))) is
+        ap (λ b. value_at_key (map (spelled_dent_row d) (cons_option (cond b (Some (e.0.1, e.1)) None) (filter_map (named_in_dir d) es))) (spelled_key (keys.Dent d n))) is
         ∙ (ap (λ o. cond (is_eq o) (Some (spelled_value (DentValue e.1))) (value_at_key (dents_of d es) (spelled_key (keys.Dent d n)))) (dent_order d n e.0.1)
         ∙ (picked (is_eq (slice_cmp nat_cmp n e.0.1)) _ _ later
         ∙ ap (λ o. option_map spelled_value (option_map DentValue (cond (is_eq o) (Some e.1) (find dent_cmp (d, n) es)))) (sym (same_dir d e.0.0 n e.0.1 same))))
     by_dir false is later =
-        ap (λ b. value_at_key (map (spelled_dent d) (cons_option (cond b (Some (e.0.1, e.1)) None) (filter_map (in_dir d) es))) (spelled_key (keys.Dent d n))) is
+        ap (λ b. value_at_key (map (spelled_dent_row d) (cons_option (cond b (Some (e.0.1, e.1)) None) (filter_map (named_in_dir d) es))) (spelled_key (keys.Dent d n))) is
         ∙ (later
         ∙ ap (λ b. option_map spelled_value (option_map DentValue (cond b (Some e.1) (find dent_cmp (d, n) es)))) (sym (other_dir d n e.0 is)))
 
@@ -93,8 +93,8 @@ above_dents d n (e ∷ es) h = by_dir (e.0.0 == d) refl (above_dents d n es (bot
     by_dir true is later =
         let same : e.0.0 ≡ d = eqb-true e.0.0 d is in
         let less : slice_cmp nat_cmp n e.0.1 ≡ Less = sym (same_dir d e.0.0 n e.0.1 same) ∙ is_Less _ (both_first _ _ h) in
-        subst (λ b. KeysAbove (spelled_key (keys.Dent d n)) (map (spelled_dent d) (cons_option (cond b (Some (e.0.1, e.1)) None) (filter_map (in_dir d) es)))) (sym is) (dent_order d n e.0.1 ∙ less, later)
-    by_dir false is later = subst (λ b. KeysAbove (spelled_key (keys.Dent d n)) (map (spelled_dent d) (cons_option (cond b (Some (e.0.1, e.1)) None) (filter_map (in_dir d) es)))) (sym is) later
+        subst (λ b. KeysAbove (spelled_key (keys.Dent d n)) (map (spelled_dent_row d) (cons_option (cond b (Some (e.0.1, e.1)) None) (filter_map (named_in_dir d) es)))) (sym is) (dent_order d n e.0.1 ∙ less, later)
+    by_dir false is later = subst (λ b. KeysAbove (spelled_key (keys.Dent d n)) (map (spelled_dent_row d) (cons_option (cond b (Some (e.0.1, e.1)) None) (filter_map (named_in_dir d) es)))) (sym is) later
 
 ascending_dents : (d : ℕ) (es : List ((ℕ × List ℕ) × DentRow)) → T (is_sorted dent_cmp es) → IsAscending (dents_of d es)
 ascending_dents d [] h = tt
@@ -103,12 +103,12 @@ ascending_dents d (e ∷ es) h = by_dir (e.0.0 == d) refl (ascending_dents d es 
     by_dir : (b : Bool) → (e.0.0 == d) ≡ b → IsAscending (dents_of d es) → IsAscending (dents_of d (e ∷ es))
     by_dir true is later =
         let same : e.0.0 ≡ d = eqb-true e.0.0 d is in
-        subst (λ b. IsAscending (map (spelled_dent d) (cons_option (cond b (Some (e.0.1, e.1)) None) (filter_map (in_dir d) es)))) (sym is)
+        subst (λ b. IsAscending (map (spelled_dent_row d) (cons_option (cond b (Some (e.0.1, e.1)) None) (filter_map (named_in_dir d) es)))) (sym is)
         (above_dents d e.0.1 es (subst (λ x. T (below_all dent_cmp (x, e.0.1) es)) same (both_first _ _ h)), later)
-    by_dir false is later = subst (λ b. IsAscending (map (spelled_dent d) (cons_option (cond b (Some (e.0.1, e.1)) None) (filter_map (in_dir d) es)))) (sym is) later
+    by_dir false is later = subst (λ b. IsAscending (map (spelled_dent_row d) (cons_option (cond b (Some (e.0.1, e.1)) None) (filter_map (named_in_dir d) es)))) (sym is) later
 
 -- a key outside the range is not among them
-outside_dents : (d : ℕ) (q : List ℕ) (es : List (List ℕ × DentRow)) → is_inside (dir_prefix d) (raised (dir_prefix d)) q ≡ false → value_at_key (map (spelled_dent d) es) q ≡ None
+outside_dents : (d : ℕ) (q : List ℕ) (es : List (List ℕ × DentRow)) → is_inside (dir_prefix d) (raised (dir_prefix d)) q ≡ false → value_at_key (map (spelled_dent_row d) es) q ≡ None
 outside_dents d q [] out = refl
 outside_dents d q (e ∷ es) out =
     by_place _ q (spelled_key (keys.Dent d e.0))
@@ -117,10 +117,10 @@ outside_dents d q (e ∷ es) out =
     (λ l. rw l (outside_dents d q es out))
 
 -- the rows of a directory's range are the spellings of its rows, in order of names
-pub dir_range_rows : (R : List Row) (S : TypedRows) → IsAscending R → Spells R S → (d : ℕ) → d < 2 ^ 36 → range_rows R (dir_prefix d) (raised (dir_prefix d)) ≡ map (spelled_dent d) (dir_rows S d)
+pub dir_range_rows : (R : List Row) (S : TypedRows) → IsAscending R → Spells R S → (d : ℕ) → d < 2 ^ 36 → range_rows R (dir_prefix d) (raised (dir_prefix d)) ≡ map (spelled_dent_row d) (dir_rows S d)
 dir_range_rows R S asc spells d fits =
-    same_rows (range_rows R (dir_prefix d) (raised (dir_prefix d))) (map (spelled_dent d) (dir_rows S d)) (IsAscending-range_rows R (dir_prefix d) (raised (dir_prefix d)) asc) (ascending_dents d (entries S.dents) (entries_sorted S.dents)) (λ q.
-    value-range_rows R (dir_prefix d) (raised (dir_prefix d)) q ∙ (elim (is_inside (dir_prefix d) (raised (dir_prefix d)) q) as (λ t. is_inside (dir_prefix d) (raised (dir_prefix d)) q ≡ t → cond t (value_at_key R q) None ≡ value_at_key (map (spelled_dent d) (dir_rows S d)) q) [
+    same_rows (range_rows R (dir_prefix d) (raised (dir_prefix d))) (map (spelled_dent_row d) (dir_rows S d)) (IsAscending-range_rows R (dir_prefix d) (raised (dir_prefix d)) asc) (ascending_dents d (entries S.dents) (entries_sorted S.dents)) (λ q.
+    value-range_rows R (dir_prefix d) (raised (dir_prefix d)) q ∙ (elim (is_inside (dir_prefix d) (raised (dir_prefix d)) q) as (λ t. is_inside (dir_prefix d) (raised (dir_prefix d)) q ≡ t → cond t (value_at_key R q) None ≡ value_at_key (map (spelled_dent_row d) (dir_rows S d)) q) [
       | true ↦ λ t.
           let found = in_dir_range d q t in
           let at : q ≡ spelled_key (keys.Dent d found.0) = found.1 ∙ sym (dent_key d found.0) in
@@ -128,17 +128,18 @@ dir_range_rows R S asc spells d fits =
           ∙ (at_any R S spells (keys.Dent d found.0) (omega arith)
           ∙ (ap (λ o. option_map spelled_value (option_map DentValue o)) (get-entries S.dents (d, found.0))
           ∙ (sym (value_dents d found.0 (entries S.dents))
-          ∙ ap (value_at_key (map (spelled_dent d) (dir_rows S d))) (sym at))))
+          ∙ ap (value_at_key (map (spelled_dent_row d) (dir_rows S d))) (sym at))))
       | false ↦ λ t. sym (outside_dents d q (dir_rows S d) t)
     ]) refl)
 
 -- the first rows of the range
-pub dir_rows_between : (R : List Row) (S : TypedRows) → IsAscending R → Spells R S → (d limit : ℕ) → d < 2 ^ 36 → rows_between R (dir_prefix d) (raised (dir_prefix d)) limit ≡ map (spelled_dent d) (take limit (dir_rows S d))
-dir_rows_between R S asc spells d limit fits = ap (take limit) (dir_range_rows R S asc spells d fits) ∙ take-map (spelled_dent d) limit (dir_rows S d)
+pub dir_rows_between : (R : List Row) (S : TypedRows) → IsAscending R → Spells R S → (d limit : ℕ) → d < 2 ^ 36 → rows_between R (dir_prefix d) (raised (dir_prefix d)) limit ≡ map (spelled_dent_row d) (take limit (dir_rows S d))
+dir_rows_between R S asc spells d limit fits = ap (take limit) (dir_range_rows R S asc spells d fits) ∙ take-map (spelled_dent_row d) limit (dir_rows S d)
 
 -- ---- pages: from `lo` on the range has what is left of the directory after n rows
 abbrev pub IsDirPlace : List Row → TypedRows → ℕ → List ℕ → ℕ → Type 0
-IsDirPlace R S d lo n = range_rows R lo (raised (dir_prefix d)) ≡ map (spelled_dent d) (drop n (dir_rows S d))
+IsDirPlace R S d lo n =
+    range_rows R lo (raised (dir_prefix d)) ≡ map (spelled_dent_row d) (drop n (dir_rows S d))
 
 pub first_dir_place : (R : List Row) (S : TypedRows) → IsAscending R → Spells R S → (d : ℕ) → d < 2 ^ 36 → IsDirPlace R S d (dir_prefix d) 0
 first_dir_place R S asc spells d fits = dir_range_rows R S asc spells d fits
@@ -147,7 +148,7 @@ pub next_dir_place : (R : List Row) (S : TypedRows) → IsAscending R → (d : �
     → length (rows_between R lo (raised (dir_prefix d)) m) ≡ m → last_key (rows_between R lo (raised (dir_prefix d)) m) ≡ Some k → IsDirPlace R S d (key_after k) (n + m)
 next_dir_place R S asc d lo k n m at full last =
     next_page R lo (raised (dir_prefix d)) k m asc full last
-    ∙ (ap (drop m) at ∙ (drop-map (spelled_dent d) m (drop n (dir_rows S d)) ∙ ap (map (spelled_dent d)) (drop-drop m n (dir_rows S d))))
+    ∙ (ap (drop m) at ∙ (drop-map (spelled_dent_row d) m (drop n (dir_rows S d)) ∙ ap (map (spelled_dent_row d)) (drop-drop m n (dir_rows S d))))
 
-pub dir_page : (R : List Row) (S : TypedRows) (d : ℕ) (lo : List ℕ) (n m : ℕ) → IsDirPlace R S d lo n → rows_between R lo (raised (dir_prefix d)) m ≡ map (spelled_dent d) (take m (drop n (dir_rows S d)))
-dir_page R S d lo n m at = ap (take m) at ∙ take-map (spelled_dent d) m (drop n (dir_rows S d))
+pub dir_page : (R : List Row) (S : TypedRows) (d : ℕ) (lo : List ℕ) (n m : ℕ) → IsDirPlace R S d lo n → rows_between R lo (raised (dir_prefix d)) m ≡ map (spelled_dent_row d) (take m (drop n (dir_rows S d)))
+dir_page R S d lo n m at = ap (take m) at ∙ take-map (spelled_dent_row d) m (drop n (dir_rows S d))

@@ -17,7 +17,7 @@ use Rattle.tree_model.specs.declared.new_node.NewNode.{NewNode}
 use Rattle.tree_model.specs.declared.node.Node.{Node}
 use Rattle.tree_model.specs.declared.node.NodePart.{NodePart}
 use Rattle.tree_model.specs.declared.walk.Walked.TheVariants.{AtParent}
-use Rattle.tree_model.specs.Creating.{id_of, is_layout, part_for, with_child, add_numbered, add_in, add_child, unless_there, make_at}
+use Rattle.tree_model.specs.Creating.{id_of, admits_given, part_for, with_child, add_numbered, add_in, add_child, unless_there, make_at}
 use Rattle.tree_model.specs.Effects.{Effect, Makes, refuses}
 use Rattle.tree_model.specs.Tree.{next_at, node_with}
 use Rattle.tree_model.proofs.MapLaws.{some_or_none, same_some}
@@ -41,7 +41,7 @@ no_directory S dir row at not_dir has = by row.part refl (ap (λ (r : InodeRow).
     by (parts.Link target) is k = let e : kinds.Link ≡ kinds.Dir = sym (ap kind_of is) ∙ k in cc
 
 -- the given layout or the directory's default, each admitted
-pub chosen_fits : (C : Settings) (given : Option DefaultLayout) (default : DefaultLayout) → is_layout C given ≡ true → admits C default ≡ true → IsTrue (admits C (unwrap_or given default))
+pub chosen_fits : (C : Settings) (given : Option DefaultLayout) (default : DefaultLayout) → admits_given C given ≡ true → admits C default ≡ true → IsTrue (admits C (unwrap_or given default))
 chosen_fits C None default given_fits fits = fits
 chosen_fits C (Some given) default given_fits fits = given_fits
 

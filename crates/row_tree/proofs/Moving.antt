@@ -15,7 +15,7 @@ use Rattle.fs_base.specs.declared.kind.Kind.TheVariants as kinds
 use Rattle.tree_model.specs.Maps.{set, count_where, dent_cmp}
 use Rattle.row_tree.specs.TypedRows.{TypedRows, kind_of, parent_of, parent_at, entries_to, is_to}
 use Rattle.row_tree.specs.TreeOf.{tree_of, node_of, node_part}
-use Rattle.row_tree.specs.WellFormed.{IsPath, IsGiven, HasKind, IsEntry, IsLinked, FitsConfig, IsDoomed, IsWellFormed}
+use Rattle.row_tree.specs.WellFormed.{IsPath, IsIdGiven, HasKind, IsEntry, IsLinked, FitsConfig, IsDoomed, IsWellFormed}
 use Rattle.row_tree.specs.Steps.{reparented, under, IsPathAround, MayMove, with_move}
 use Rattle.tree_model.proofs.MapLaws.{not_some, same_some, some_injective, get-set_same, get-set_other, get-set_cases, set_present, count-set, only_counted, one_if, map_values-set, decide}
 use Rattle.tree_model.proofs.MapLaws.{ids, names}
@@ -175,7 +175,7 @@ module _ (C : Settings) (S : TypedRows) (good : IsWellFormed C S) (d : ℕ) (n :
         }
   ]
 
-  doomed_after : (i : ℕ) (g : GcRow) → get S.doomed i ≡ Some g → IsDoomed C after i g × IsGiven after i
+  doomed_after : (i : ℕ) (g : GcRow) → get S.doomed i ≡ Some g → IsDoomed C after i g × IsIdGiven after i
   doomed_after i Waiting is =
       let old = good.doomed i Waiting is in
       let now = row_after i old.0.0 old.0.1 in

@@ -19,7 +19,7 @@ use Rattle.tree_model.specs.Creating.{first_hint, part_for}
 use Rattle.tree_model.specs.Tree.{next_at}
 use Rattle.row_tree.specs.NewRows.{row_part, new_row, IsNewRow, IsPart}
 use Rattle.row_tree.specs.TreeOf.{node_part}
-use Rattle.row_tree.specs.TypedRows.{TypedRows, kind_of, lookup, parent_of}
+use Rattle.row_tree.specs.TypedRows.{TypedRows, kind_of, value_at, parent_of}
 use Rattle.row_tree.specs.Values.{AllocValue}
 use Rattle.row_tree.specs.WellFormed.{FitsConfig}
 
@@ -125,7 +125,7 @@ module _ (C : Settings) where
 -- ---- numbers
 
 -- a number raised is another
-pub number_changes : (S : TypedRows) (server number : ℕ) → next_at S.next server ≡ number → lookup S (keys.Alloc server) ≢ Some (AllocValue (number + 1))
+pub number_changes : (S : TypedRows) (server number : ℕ) → next_at S.next server ≡ number → value_at S (keys.Alloc server) ≢ Some (AllocValue (number + 1))
 number_changes S server number is = by (get S.next server) refl
   where
     same : (v : ℕ) → Some (AllocValue v) ≡ Some (AllocValue (number + 1)) → v ≡ number + 1

@@ -16,12 +16,12 @@ use Rattle.key_schema.specs.declared.key.Key.{Key}
 use Rattle.key_schema.specs.declared.key.Key.TheVariants as keys
 use Rattle.row_tree.specs.Values.{Value, GcValue, SessionValue, spelled_value, IsValue}
 use Rattle.fs_base.specs.declared.ids.ClientId.{ClientId}
-use Rattle.row_tree.specs.TypedRows.{TypedRows, lookup}
+use Rattle.row_tree.specs.TypedRows.{TypedRows, value_at}
 use Rattle.tree_model.proofs.MapLaws.{decide, some_or_none, same_some, not_some, ids}
 use Rattle.key_schema.specs.Keys.{spelled_key, IsSpellable, IsValidKey}
 use Rattle.key_schema.specs.Ranges.{raised, session_prefix, all_doomed}
 use Rattle.conflict_sets.specs.Ranges.{range_rows}
-use Rattle.row_tree.specs.Spelling.{OneValueEach, Spells, spelled_gc, AreGcRows}
+use Rattle.row_tree.specs.Spelling.{OneValueEach, Spells, spelled_gc_row, AreGcRows}
 use Rattle.key_schema.proofs.KeyLaws.{key_of, client_at, key_of-spelled_key, one_key_each, spellable}
 use Rattle.conflict_sets.proofs.RowRanges.{value_head, value-range_rows}
 use Rattle.row_tree.proofs.Prefixes.{inside_prefix, prefix_of}
@@ -41,7 +41,7 @@ no_value (Some v) e = absurd (cc)
 
 -- what all rows of a range of one prefix tell of a key in it
 pub range_told : (R : List Row) (S : TypedRows) → Spells R S → (b : ℕ) (p x : List ℕ) (k : Key) → IsSpellable k → spelled_key k ≡ (b ∷ p) ++ x
-    → value_at_key (range_rows R (b ∷ p) (raised (b ∷ p))) (spelled_key k) ≡ option_map spelled_value (lookup S k)
+    → value_at_key (range_rows R (b ∷ p) (raised (b ∷ p))) (spelled_key k) ≡ option_map spelled_value (value_at S k)
 range_told R S spells b p x k fits at =
     value-range_rows R (b ∷ p) (raised (b ∷ p)) (spelled_key k)
     ∙ (ap (λ t. cond t (value_at_key R (spelled_key k)) None) (ap (is_inside (b ∷ p) (raised (b ∷ p))) at ∙ inside_prefix b p x)
@@ -49,9 +49,9 @@ range_told R S spells b p x k fits at =
 
 -- an empty range, asked with a limit of at least 1
 pub range_empty : (R : List Row) (S : TypedRows) → Spells R S → (b : ℕ) (p : List ℕ) (n : ℕ) → rows_between R (b ∷ p) (raised (b ∷ p)) (suc n) ≡ []
-    → (k : Key) (x : List ℕ) → IsSpellable k → spelled_key k ≡ (b ∷ p) ++ x → lookup S k ≡ None
+    → (k : Key) (x : List ℕ) → IsSpellable k → spelled_key k ≡ (b ∷ p) ++ x → value_at S k ≡ None
 range_empty R S spells b p n none k x fits at =
-    no_value (lookup S k) (sym (ap (λ (rows : List Row). value_at_key rows (spelled_key k)) (first_of_none (range_rows R (b ∷ p) (raised (b ∷ p))) n none)) ∙ range_told R S spells b p x k fits at)
+    no_value (value_at S k) (sym (ap (λ (rows : List Row). value_at_key rows (spelled_key k)) (first_of_none (range_rows R (b ∷ p) (raised (b ∷ p))) n none)) ∙ range_told R S spells b p x k fits at)
 
 -- a range that gives a row: a valid key of the prefix stands in the typed rows
 pub record HasKeyOf (S : TypedRows) (p : List ℕ) : Type 0 where
@@ -60,7 +60,7 @@ pub record HasKeyOf (S : TypedRows) (p : List ℕ) : Type 0 where
   pub rest : List ℕ
   pub at : spelled_key key ≡ p ++ rest
   pub value : Value
-  pub there : lookup S key ≡ Some value
+  pub there : value_at S key ≡ Some value
 
 taken : (t : Bool) (o : Option (List ℕ)) (v : List ℕ) → cond t o None ≡ Some v → (t ≡ true) × (o ≡ Some v)
 taken true o v e = (refl, e)
@@ -72,7 +72,7 @@ range_used R S spells b p n r rs is =
     let both = taken (is_inside (b ∷ p) (raised (b ∷ p)) r.key) (value_at_key R r.key) r.value (sym (value-range_rows R (b ∷ p) (raised (b ∷ p)) r.key) ∙ (ap (λ (rows : List Row). value_at_key rows r.key) first.1 ∙ value_head r first.0)) in
     let key = spells.only r.key r.value both.1 in
     let pre = prefix_of b p r.key both.0 in
-    let found = found_back (lookup S key.0) r.value (sym both.1 ∙ (ap (value_at_key R) key.2 ∙ spells.at key.0 key.1)) in
+    let found = found_back (value_at S key.0) r.value (sym both.1 ∙ (ap (value_at_key R) key.2 ∙ spells.at key.0 key.1)) in
     record { key = key.0; valid = key.1; rest = pre.0; at = sym key.2 ∙ pre.1; value = found.0; there = found.1 }
 
 -- ---- sessions of an inode
@@ -90,7 +90,7 @@ no_sessions R S spells i n none c m = elim (some_or_none (get S.sessions (i, (c,
   | inr found ↦
       let client : ClientId = record { 0 = c } in
       let valid = (spells.fits (keys.Session i client m) (SessionValue found.0) (ap (option_map SessionValue) found.1)).0 in
-      let gone : lookup S (keys.Session i client m) ≡ None = range_empty R S spells 83 (codes "ESS" ++ to_le_bytes w64 i) n none (keys.Session i client m) (drop 12 (spelled_key (keys.Session i client m))) (spellable (keys.Session i client m) valid) (session_key i client m) in
+      let gone : value_at S (keys.Session i client m) ≡ None = range_empty R S spells 83 (codes "ESS" ++ to_le_bytes w64 i) n none (keys.Session i client m) (drop 12 (spelled_key (keys.Session i client m))) (spellable (keys.Session i client m) valid) (session_key i client m) in
       absurd (not_some (SessionValue found.0) gone (ap (option_map SessionValue) found.1))
 ]
 
@@ -105,7 +105,7 @@ some_sessions R S spells i n l r rs is =
     let c = client_at 12 (session_prefix i ++ used.rest) in
     let m = from_be_bytes w64 (drop 28 (session_prefix i ++ used.rest)) in
     let key : used.key ≡ keys.Session i (record { 0 = c }) m = sym (key_of-spelled_key used.key (spellable used.key used.valid)) ∙ (ap key_of used.at ∙ session_of i used.rest (omega arith)) in
-    let at = some_session (get S.sessions (i, (c, m))) used.value (sym (ap (lookup S) key) ∙ used.there) in
+    let at = some_session (get S.sessions (i, (c, m))) used.value (sym (ap (value_at S) key) ∙ used.there) in
     (c, m, at.0, at.1)
 
 -- ---- all doomed inodes, which the range gives in the order of their ids' bytes
@@ -128,15 +128,15 @@ same_gc i j a b apart =
     number : (k l : Key) → gc_id k ≡ i → gc_id l ≡ j → k ≡ l → i ≡ j
     number k l a b e = sym a ∙ (ap gc_id e ∙ b)
 
-value_gcs : (i : ℕ) → i < 2 ^ 64 → (es : List (ℕ × GcRow)) → AreGcRows es → value_at_key (map (spelled_gc) es) (spelled_key (keys.Gc i)) ≡ option_map spelled_value (option_map GcValue (find nat_cmp i es))
+value_gcs : (i : ℕ) → i < 2 ^ 64 → (es : List (ℕ × GcRow)) → AreGcRows es → value_at_key (map (spelled_gc_row) es) (spelled_key (keys.Gc i)) ≡ option_map spelled_value (option_map GcValue (find nat_cmp i es))
 value_gcs i l [] h = refl
 value_gcs i l (e ∷ es) h = elim (decide ids i e.0) [
   | inl q ↦
-      ap (λ j. value_at_key (map (spelled_gc) (e ∷ es)) (spelled_key (keys.Gc j))) q.0
-      ∙ (value_head (spelled_gc e) (map (spelled_gc) es)
+      ap (λ j. value_at_key (map (spelled_gc_row) (e ∷ es)) (spelled_key (keys.Gc j))) q.0
+      ∙ (value_head (spelled_gc_row e) (map (spelled_gc_row) es)
       ∙ ap (λ b. option_map spelled_value (option_map GcValue (cond b (Some e.1) (find nat_cmp i es)))) (sym q.1))
   | inr q ↦
-      ap (λ b. cond b (Some (spelled_value (GcValue e.1))) (value_at_key (map (spelled_gc) es) (spelled_key (keys.Gc i)))) (same_gc i e.0 l (below h.0.0) q.0)
+      ap (λ b. cond b (Some (spelled_value (GcValue e.1))) (value_at_key (map (spelled_gc_row) es) (spelled_key (keys.Gc i)))) (same_gc i e.0 l (below h.0.0) q.0)
       ∙ (value_gcs i l es h.1
       ∙ ap (λ b. option_map spelled_value (option_map GcValue (cond b (Some e.1) (find nat_cmp i es)))) (sym q.1))
 ]
@@ -160,18 +160,18 @@ gc_of (GcValue g) = Some g
 gc_of _ = None
 
 -- The rows read, put into a map by number, are the doomed rows; the reply lists that map's entries.
-pub doomed_read : OneValueEach → (R : List Row) (S : TypedRows) → Spells R S → (es : List (ℕ × GcRow)) → range_rows R all_doomed (raised all_doomed) ≡ map (spelled_gc) es → AreGcRows es → from_entries {R = nat_cmp} es ≡ S.doomed
+pub doomed_read : OneValueEach → (R : List Row) (S : TypedRows) → Spells R S → (es : List (ℕ × GcRow)) → range_rows R all_doomed (raised all_doomed) ≡ map (spelled_gc_row) es → AreGcRows es → from_entries {R = nat_cmp} es ≡ S.doomed
 unfolding gc_of
 doomed_read law R S spells es is h = same_map ids.total ids.same (from_entries {R = nat_cmp} es) S.doomed (λ i. get-from_entries ids.total es i ∙ at i)
   where
-    told : (i : ℕ) → i < 2 ^ 36 → option_map spelled_value (option_map GcValue (find nat_cmp i es)) ≡ option_map spelled_value (lookup S (keys.Gc i))
+    told : (i : ℕ) → i < 2 ^ 36 → option_map spelled_value (option_map GcValue (find nat_cmp i es)) ≡ option_map spelled_value (value_at S (keys.Gc i))
     told i l = sym (value_gcs i (omega arith) es h) ∙ (ap (λ (rows : List Row). value_at_key rows (spelled_key (keys.Gc i))) (sym is) ∙ range_told R S spells 71 (codes "COL") (to_le_bytes w64 i) (keys.Gc i) (omega arith) (gc_key i))
 
     at : (i : ℕ) → find nat_cmp i es ≡ get S.doomed i
     at i = elim (some_or_none (find nat_cmp i es)) [
       | inr found ↦
           let fits = in_range_found i es h found.0 found.1 in
-          let there = found_back (lookup S (keys.Gc i)) (spelled_value (GcValue found.0)) (sym (ap (λ o. option_map spelled_value (option_map GcValue o)) found.1) ∙ told i fits.0) in
+          let there = found_back (value_at S (keys.Gc i)) (spelled_value (GcValue found.0)) (sym (ap (λ o. option_map spelled_value (option_map GcValue o)) found.1) ∙ told i fits.0) in
           let row = gc_value (get S.doomed i) there.0 there.1 in
           let same : GcValue found.0 ≡ GcValue row.0 = law (keys.Gc i) (GcValue found.0) (GcValue row.0) refl refl fits.1 (subst IsValue row.2 (spells.fits (keys.Gc i) there.0 there.1).1) (sym there.2 ∙ ap spelled_value row.2) in
           found.1 ∙ (ap Some (same_some found.0 row.0 refl (ap gc_of same)) ∙ sym row.1)
@@ -179,7 +179,7 @@ doomed_read law R S spells es is h = same_map ids.total ids.same (from_entries {
         | inl other ↦ none ∙ sym other
         | inr found ↦
             let fits = (spells.fits (keys.Gc i) (GcValue found.0) (ap (option_map GcValue) found.1)).0 in
-            let gone : lookup S (keys.Gc i) ≡ None = no_value (lookup S (keys.Gc i)) (sym (ap (λ o. option_map spelled_value (option_map GcValue o)) none) ∙ told i fits) in
+            let gone : value_at S (keys.Gc i) ≡ None = no_value (value_at S (keys.Gc i)) (sym (ap (λ o. option_map spelled_value (option_map GcValue o)) none) ∙ told i fits) in
             absurd (not_some (GcValue found.0) gone (ap (option_map GcValue) found.1))
       ]
     ]
@@ -195,5 +195,5 @@ range_row R S spells b p q v is =
     let both = taken (is_inside (b ∷ p) (raised (b ∷ p)) q) (value_at_key R q) v (sym (value-range_rows R (b ∷ p) (raised (b ∷ p)) q) ∙ is) in
     let key = spells.only q v both.1 in
     let pre = prefix_of b p q both.0 in
-    let found = found_back (lookup S key.0) v (sym both.1 ∙ (ap (value_at_key R) key.2 ∙ spells.at key.0 key.1)) in
+    let found = found_back (value_at S key.0) v (sym both.1 ∙ (ap (value_at_key R) key.2 ∙ spells.at key.0 key.1)) in
     record { has = record { key = key.0; valid = key.1; rest = pre.0; at = sym key.2 ∙ pre.1; value = found.0; there = found.1 }; key = key.2; value = found.2 }

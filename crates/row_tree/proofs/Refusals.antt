@@ -8,7 +8,7 @@ use Rattle.fs_base.specs.declared.row.Row.{Row}
 use Rattle.key_schema.specs.Keys.{IsKeyOf, IsNoKey}
 use Rattle.key_schema.specs.declared.key.Key.{Key}
 use Rattle.row_tree.specs.Spelling.{Spells, IsValueOf}
-use Rattle.row_tree.specs.TypedRows.{TypedRows, lookup}
+use Rattle.row_tree.specs.TypedRows.{TypedRows, value_at}
 use Rattle.row_tree.specs.Values.{Value, spelled_value}
 use Rattle.row_tree.proofs.SpellingLaws.{found_back, lookup-form}
 
@@ -26,5 +26,6 @@ no_key_there R b v is none S spells = let key = spells.only b v is in none key.0
 
 pub no_value_there : (R : List Row) (b v : List ℕ) (k : Key) → value_at_key R b ≡ Some v → IsKeyOf b k → ((w : Value) → IsValueOf k (Some w) → spelled_value w ≡ v → ⊥) → (S : TypedRows) → Spells R S → ⊥
 no_value_there R b v k is key none S spells =
-    let found = found_back (lookup S k) v (sym is ∙ (ap (value_at_key R) (sym key.1) ∙ spells.at k key.0)) in
+    let found =
+    found_back (value_at S k) v (sym is ∙ (ap (value_at_key R) (sym key.1) ∙ spells.at k key.0)) in
     none found.0 (lookup-form S k found.0 found.1, (spells.fits k found.0 found.1).1) found.2

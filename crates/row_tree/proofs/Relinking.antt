@@ -15,7 +15,7 @@ use Rattle.tree_model.specs.Maps.{set, map_values}
 use Rattle.tree_model.proofs.MapLaws.{ids, names, some_injective, not_some, same_some, get-set_same, get-set_other, get-set_cases, count-set, decide, one_if, map_values-set}
 use Rattle.row_tree.specs.TypedRows.{TypedRows, kind_of, parent_of, parent_at, entries_to, is_to}
 use Rattle.row_tree.specs.TreeOf.{tree_of, node_of, doom_of}
-use Rattle.row_tree.specs.WellFormed.{IsPath, IsGiven, HasKind, IsEntry, IsLinked, IsRootRow, FitsConfig, IsDoomed, IsWellFormed}
+use Rattle.row_tree.specs.WellFormed.{IsPath, IsIdGiven, HasKind, IsEntry, IsLinked, IsRootRow, FitsConfig, IsDoomed, IsWellFormed}
 use Rattle.row_tree.specs.Steps.{MayRelink, with_entry, count_if}
 use Rattle.row_tree.proofs.Adding.{parent_row, parent_at_row}
 
@@ -189,7 +189,7 @@ module _ (C : Settings) (S : TypedRows) (good : IsWellFormed C S) (dir : ℕ) (n
   ]
 
   -- what was being deleted is another inode, and is so still
-  old_doomed : (x : ℕ) (g : GcRow) → get S.doomed x ≡ Some g → IsDoomed C after x g × IsGiven after x
+  old_doomed : (x : ℕ) (g : GcRow) → get S.doomed x ≡ Some g → IsDoomed C after x g × IsIdGiven after x
   old_doomed x Waiting is =
       let was = good.doomed x Waiting is in
       let other : x ≢ id = λ same. let alike : old ≡ was.0.0 = same_some old was.0.0 may.there (ap (get S.inodes) (sym same) ∙ was.0.1) in let links = ap (λ (r : InodeRow). r.links) alike in let none = was.0.3 in let one = may.linked in omega arith in
@@ -199,13 +199,13 @@ module _ (C : Settings) (S : TypedRows) (good : IsWellFormed C S) (dir : ℕ) (n
       let other : x ≢ id = λ same. not_some old (ap (get S.inodes) (sym same) ∙ was.0.0) may.there in
       ((get-set_other ids S.inodes id (Some row) x other ∙ was.0.0, was.0.1, was.0.2, was.0.3), was.1)
 
-  doomed_after : (x : ℕ) (g : GcRow) → get doomed x ≡ Some g → IsDoomed C after x g × IsGiven after x
+  doomed_after : (x : ℕ) (g : GcRow) → get doomed x ≡ Some g → IsDoomed C after x g × IsIdGiven after x
   doomed_after x g is = elim may.fate [
     | inl h ↦ old_doomed x g (sym (ap (λ (m : FinMap nat_cmp GcRow). get m x) h.1) ∙ is)
     | inr h ↦ elim (get-set_cases ids S.doomed id (Some Waiting) x (Some g) (sym (ap (λ (m : FinMap nat_cmp GcRow). get m x) h.2) ∙ is)) [
       | inl q ↦
-          subst (λ (y : ℕ). IsDoomed C after y g × IsGiven after y) (sym q.0)
-          (subst (λ (y : GcRow). IsDoomed C after id y × IsGiven after id) (some_injective Waiting g q.1) ((row, new_row, ap kind_of may.part ∙ h.1, h.0), (old_linked).given))
+          subst (λ (y : ℕ). IsDoomed C after y g × IsIdGiven after y) (sym q.0)
+          (subst (λ (y : GcRow). IsDoomed C after id y × IsIdGiven after id) (some_injective Waiting g q.1) ((row, new_row, ap kind_of may.part ∙ h.1, h.0), (old_linked).given))
       | inr q ↦ old_doomed x g q.1
     ]
   ]

@@ -14,7 +14,7 @@ use Rattle.row_records.specs.declared.rows.GcRow.TheVariants.{Waiting, Purged}
 use Rattle.tree_model.proofs.MapLaws.{ids, names, not_some, same_some, some_injective, get-set_same, get-set_other, get-set_cases, count-set, some_counted, only_counted, one_if, map_values-set, decide}
 use Rattle.row_tree.specs.TypedRows.{TypedRows, kind_of, parent_of, parent_at, entries_to, is_to}
 use Rattle.row_tree.specs.TreeOf.{tree_of, node_of}
-use Rattle.row_tree.specs.WellFormed.{IsPath, IsGiven, HasKind, IsEntry, IsLinked, IsDoomed, IsWellFormed}
+use Rattle.row_tree.specs.WellFormed.{IsPath, IsIdGiven, HasKind, IsEntry, IsLinked, IsDoomed, IsWellFormed}
 use Rattle.row_tree.specs.Steps.{IsPathAround, MayRemove, without_node}
 use Rattle.row_tree.proofs.Adding.{parent_row, parent_at_row}
 
@@ -134,7 +134,7 @@ module _ (C : Settings) (S : TypedRows) (good : IsWellFormed C S) (dir : ℕ) (n
   file_stays : (id : ℕ) → HasKind S id kinds.File → id ≢ e.inode
   file_stays id has eq = may.no_file (same_kind S e.inode e.kind kinds.File ((good.entry dir name e may.entry).target) (subst (λ (x : ℕ). HasKind S x kinds.File) eq has))
 
-  doomed_after : (id : ℕ) (g : GcRow) → get S.doomed id ≡ Some g → IsDoomed C after id g × IsGiven after id
+  doomed_after : (id : ℕ) (g : GcRow) → get S.doomed id ≡ Some g → IsDoomed C after id g × IsIdGiven after id
   doomed_after id Waiting is =
       let old = good.doomed id Waiting is in
       ((old.0.0, stays id old.0.0 (file_stays id (old.0.0, old.0.1, old.0.2)) old.0.1, old.0.2, old.0.3), old.1)

@@ -16,7 +16,7 @@ use Rattle.row_records.specs.declared.rows.KeptRow.{KeptRow}
 use Rattle.key_schema.specs.declared.key.Key.{Key}
 use Rattle.key_schema.specs.declared.key.Key.TheVariants as keys
 use Rattle.row_tree.specs.Values.{Value, AllocValue, DentValue, GcValue, KeptValue, InodeValue, SessionValue, spelled_value, IsValue, as_inode, as_dent, as_session, as_kept, as_gc, as_alloc}
-use Rattle.row_tree.specs.TypedRows.{TypedRows, no_rows, lookup, write, of_form}
+use Rattle.row_tree.specs.TypedRows.{TypedRows, no_rows, value_at, write, of_form}
 use Rattle.tree_model.specs.Maps.{dent_cmp, session_cmp}
 use Rattle.tree_model.proofs.MapLaws.{IsKeyOrder, decide, some_or_none, same_some, ids, names, holders}
 use Rattle.row_tree.proofs.Decoded.{lookup-write_same, lookup-write_other}
@@ -70,7 +70,7 @@ same_key q k = elim (decide texts (coded q) (coded k)) [
 ]
 
 -- ---- what stands at a key has the key's form
-pub lookup-form : (S : TypedRows) (k : Key) (v : Value) → lookup S k ≡ Some v → of_form k v ≡ Some v
+pub lookup-form : (S : TypedRows) (k : Key) (v : Value) → value_at S k ≡ Some v → of_form k v ≡ Some v
 lookup-form S (keys.Alloc s) v is = formed (get S.next s) is
   where
     formed : (o : Option ℕ) → option_map AllocValue o ≡ Some v → of_form (keys.Alloc s) v ≡ Some v
@@ -103,9 +103,9 @@ lookup-form S (keys.Session i c n) v is = formed (get S.sessions (i, (c.0, n))) 
     formed (Some x) e = subst (λ y. of_form (keys.Session i c n) y ≡ Some y) (same_some (SessionValue x) v refl e) refl
 
 -- ---- a key that is not valid has nothing on either side
-pub at_any : (R : List Row) (S : TypedRows) → Spells R S → (k : Key) → IsSpellable k → value_at_key R (spelled_key k) ≡ option_map spelled_value (lookup S k)
+pub at_any : (R : List Row) (S : TypedRows) → Spells R S → (k : Key) → IsSpellable k → value_at_key R (spelled_key k) ≡ option_map spelled_value (value_at S k)
 at_any R S spells k fits = elim (some_or_none (value_at_key R (spelled_key k))) [
-  | inl none ↦ elim (some_or_none (lookup S k)) [
+  | inl none ↦ elim (some_or_none (value_at S k)) [
     | inl other ↦ none ∙ sym (ap (option_map spelled_value) other)
     | inr found ↦ spells.at k (spells.fits k found.0 found.1).0
   ]
@@ -138,7 +138,7 @@ spells_write R S asc spells k w valid h =
         | inl e ↦
             ap (λ x. value_at_key (with_write (spelled_key k) (option_map spelled_value w) R) (spelled_key x)) e
             ∙ (value-with_write_same (spelled_key k) (option_map spelled_value w) R asc
-            ∙ ap (option_map spelled_value) (sym (ap (lookup (write S k w)) e ∙ (lookup-write_same S k w ∙ formed_of k w h))))
+            ∙ ap (option_map spelled_value) (sym (ap (value_at (write S k w)) e ∙ (lookup-write_same S k w ∙ formed_of k w h))))
         | inr e ↦
             value-with_write_other (spelled_key k) (spelled_key q) (option_map spelled_value w) R (not_equal (spelled_key q) (spelled_key k) (λ p. e (one_key_each q k (spellable q ok) (spellable k valid) p)))
             ∙ (spells.at q ok ∙ ap (option_map spelled_value) (sym (lookup-write_other S k w q e)))
@@ -148,7 +148,7 @@ spells_write R S asc spells k w valid h =
         | inr e ↦ spells.only b v (sym (value-with_write_other (spelled_key k) b (option_map spelled_value w) R e.1) ∙ is)
       ];
       fits = λ q v is. elim (same_key q k) [
-        | inl e ↦ (subst IsValidKey (sym e) valid, in_range_of k w v h (sym (ap (lookup (write S k w)) e ∙ (lookup-write_same S k w ∙ formed_of k w h)) ∙ is))
+        | inl e ↦ (subst IsValidKey (sym e) valid, in_range_of k w v h (sym (ap (value_at (write S k w)) e ∙ (lookup-write_same S k w ∙ formed_of k w h)) ∙ is))
         | inr e ↦ spells.fits q v (sym (lookup-write_other S k w q e) ∙ is)
       ];
     }
@@ -158,17 +158,17 @@ pub found_back : (o : Option Value) (b : List ℕ) → Some b ≡ option_map spe
 found_back None b e = absurd (cc)
 found_back (Some w) b e = (w, refl, sym (same_some b (spelled_value w) refl e))
 
-lookup_found : OneValueEach → (R : List Row) (S U : TypedRows) → Spells R S → Spells R U → (k : Key) (v : Value) → lookup S k ≡ Some v → lookup U k ≡ Some v
+lookup_found : OneValueEach → (R : List Row) (S U : TypedRows) → Spells R S → Spells R U → (k : Key) (v : Value) → value_at S k ≡ Some v → value_at U k ≡ Some v
 lookup_found law R S U a b k v is =
     let fits = a.fits k v is in
-    let there : Some (spelled_value v) ≡ option_map spelled_value (lookup U k) = sym (ap (option_map spelled_value) is) ∙ (sym (a.at k fits.0) ∙ b.at k fits.0) in
-    let other = found_back (lookup U k) (spelled_value v) there in
+    let there : Some (spelled_value v) ≡ option_map spelled_value (value_at U k) = sym (ap (option_map spelled_value) is) ∙ (sym (a.at k fits.0) ∙ b.at k fits.0) in
+    let other = found_back (value_at U k) (spelled_value v) there in
     other.1 ∙ ap Some (law k other.0 v (lookup-form U k other.0 other.1) (lookup-form S k v is) (b.fits k other.0 other.1).1 fits.1 other.2)
 
-pub lookup_same : OneValueEach → (R : List Row) (S U : TypedRows) → Spells R S → Spells R U → (k : Key) → lookup S k ≡ lookup U k
-lookup_same law R S U a b k = elim (some_or_none (lookup S k)) [
+pub lookup_same : OneValueEach → (R : List Row) (S U : TypedRows) → Spells R S → Spells R U → (k : Key) → value_at S k ≡ value_at U k
+lookup_same law R S U a b k = elim (some_or_none (value_at S k)) [
   | inr found ↦ found.1 ∙ sym (lookup_found law R S U a b k found.0 found.1)
-  | inl none ↦ elim (some_or_none (lookup U k)) [
+  | inl none ↦ elim (some_or_none (value_at U k)) [
     | inl other ↦ none ∙ sym other
     | inr found ↦ lookup_found law R U S b a k found.0 found.1 ∙ sym found.1
   ]
@@ -193,7 +193,7 @@ same_typed_rows law R S U a b =
     λ i. record { inodes = inodes i; dents = dents i; sessions = sessions i; kept = kept i; doomed = doomed i; next = next i }
 
 -- ---- no rows spell no rows
-absent : (k : Key) → lookup no_rows k ≡ None
+absent : (k : Key) → value_at no_rows k ≡ None
 absent (keys.Alloc i) = ap (option_map AllocValue) (get-empty nat_cmp i)
 absent (keys.Dent d n) = ap (option_map DentValue) (get-empty dent_cmp (d, n))
 absent (keys.Gc i) = ap (option_map GcValue) (get-empty nat_cmp i)

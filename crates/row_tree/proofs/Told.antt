@@ -21,9 +21,9 @@ use Rattle.tree_model.specs.Finding.{entry_in, names_in}
 use Rattle.tree_model.specs.Maps.{dent_cmp}
 use Rattle.tree_model.specs.Tree.{Tree}
 use Rattle.tree_model.proofs.MapLaws.{ids, names, decide, both_first, both_second, find_below, not_some, same_some, count-map_values, entries-map_values}
-use Rattle.row_tree.specs.TypedRows.{TypedRows, in_dir, dir_rows, kind_of, entries_to}
+use Rattle.row_tree.specs.TypedRows.{TypedRows, named_in_dir, dir_rows, kind_of, entries_to}
 use Rattle.row_tree.specs.TreeOf.{tree_of, node_of, node_part}
-use Rattle.row_tree.specs.Told.{listed, length_at, attributes_at}
+use Rattle.row_tree.specs.Told.{listed_entry, length_at, attributes_at}
 use Rattle.row_tree.specs.WellFormed.{IsWellFormed}
 use Rattle.row_tree.proofs.Telling.{node_is}
 
@@ -45,16 +45,17 @@ consed f (Some x) xs = refl
 
 -- what holds of each row that is found holds of the list
 all_listed : (tree : Tree) (d : ℕ) (es : List ((ℕ × List ℕ) × DentRow)) → T (is_sorted dent_cmp es)
-    → ((k : ℕ × List ℕ) (e : DentRow) → find dent_cmp k es ≡ Some e → entry_in tree d (k, e.inode) ≡ option_map listed (in_dir d (k, e)))
-    → filter_map (entry_in tree d) (map (λ (e : (ℕ × List ℕ) × DentRow). (e.0, e.1.inode)) es) ≡ map listed (filter_map (in_dir d) es)
+    → ((k : ℕ × List ℕ) (e : DentRow) → find dent_cmp k es ≡ Some e → entry_in tree d (k, e.inode) ≡ option_map listed_entry (named_in_dir d (k, e)))
+    → filter_map (entry_in tree d) (map (λ (e : (ℕ × List ℕ) × DentRow). (e.0, e.1.inode)) es) ≡ map listed_entry (filter_map (named_in_dir d) es)
 all_listed tree d [] h all = refl
 all_listed tree d (e ∷ es) h all =
-    let here : entry_in tree d (e.0, e.1.inode) ≡ option_map listed (in_dir d e) = all e.0 e.1 (ap (λ o. cond (is_eq o) (Some e.1) (find dent_cmp e.0 es)) (tied_itself names.total e.0)) in
+    let here : entry_in tree d (e.0, e.1.inode) ≡ option_map listed_entry (named_in_dir d e) = all e.0 e.1 (ap (λ o. cond (is_eq o) (Some e.1) (find dent_cmp e.0 es)) (tied_itself names.total e.0)) in
     let later = all_listed tree d es (both_second _ _ h) (λ k v is. elim (decide names k e.0) [
       | inl q ↦ absurd (not_some v (find_below names e.0 es (both_first _ _ h)) (ap (λ (x : ℕ × List ℕ). find dent_cmp x es) (sym q.0) ∙ is))
       | inr q ↦ all k v (ap (λ b. cond b (Some e.1) (find dent_cmp k es)) q.1 ∙ is)
     ]) in
-    (λ i. cons_option (here i) (later i)) ∙ consed listed (in_dir d e) (filter_map (in_dir d) es)
+    (λ i. cons_option (here i) (later i))
+    ∙ consed listed_entry (named_in_dir d e) (filter_map (named_in_dir d) es)
 
 -- an entry as the tree lists it, by the node that it leads to
 abbrev entry_to : ℕ × List ℕ → ℕ → Node → DirEntry
@@ -62,20 +63,20 @@ entry_to k inode node = record { name = k.1; inode = inode; kind = kind_of_part 
 
 module _ (C : Settings) (S : TypedRows) (good : IsWellFormed C S) where
   -- each entry's node has the entry's kind
-  entry_listed : (d : ℕ) (k : ℕ × List ℕ) (e : DentRow) → get S.dents k ≡ Some e → entry_in (tree_of S) d (k, e.inode) ≡ option_map listed (in_dir d (k, e))
+  entry_listed : (d : ℕ) (k : ℕ × List ℕ) (e : DentRow) → get S.dents k ≡ Some e → entry_in (tree_of S) d (k, e.inode) ≡ option_map listed_entry (named_in_dir d (k, e))
   entry_listed d k e is = by (k.0 == d)
     where
-      there : option_map (entry_to k e.inode) (get (tree_of S).nodes e.inode) ≡ Some (listed (k.1, e))
+      there : option_map (entry_to k e.inode) (get (tree_of S).nodes e.inode) ≡ Some (listed_entry (k.1, e))
       there =
           let has = (good.entry k.0 k.1 e is).target in
           ap (option_map (entry_to k e.inode)) (node_is S e.inode (Some has.0) has.1)
           ∙ ap (λ (kind : Kind). Some (record { name = k.1; inode = e.inode; kind = kind })) (kind_told has.0.part ∙ has.2)
 
-      by : (b : Bool) → cond b (option_map (entry_to k e.inode) (get (tree_of S).nodes e.inode)) None ≡ option_map listed (cond b (Some (k.1, e)) None)
+      by : (b : Bool) → cond b (option_map (entry_to k e.inode) (get (tree_of S).nodes e.inode)) None ≡ option_map listed_entry (cond b (Some (k.1, e)) None)
       by true = there
       by false = refl
 
-  pub names_are : (d : ℕ) → names_in (tree_of S) d ≡ map listed (dir_rows S d)
+  pub names_are : (d : ℕ) → names_in (tree_of S) d ≡ map listed_entry (dir_rows S d)
   names_are d =
       ap (filter_map (entry_in (tree_of S) d)) (entries-map_values dent_cmp (λ (e : DentRow). e.inode) S.dents)
       ∙ all_listed (tree_of S) d (entries S.dents) (entries_sorted S.dents) (λ k e is. entry_listed d k e (get-entries S.dents k ∙ is))

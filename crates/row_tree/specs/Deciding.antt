@@ -72,13 +72,13 @@ linked_test S = all_pass (λ id row. (id == 0) || is_linked S id row) S.inodes
 
 -- ---- layouts
 
-abbrev pub is_layout : Settings → ℕ → Layout → Bool
-is_layout C id layout =
+abbrev pub is_file_layout : Settings → ℕ → Layout → Bool
+is_file_layout C id layout =
     admits C (record { chunk = layout.chunk; stripe = layout.stripe })
     && ((layout.start == id % C.chains) && (layout.mix == id))
 
 abbrev pub is_used : Settings → ℕ → Layout → ℕ → Bool
-is_used C id layout hint = is_layout C id layout && (nat_le 1 hint && nat_le hint layout.stripe)
+is_used C id layout hint = is_file_layout C id layout && (nat_le 1 hint && nat_le hint layout.stripe)
 
 abbrev pub fits_config : Settings → ℕ → InodePart → Bool
 fits_config C id (parts.Dir parent chunk stripe) = admits C (record { chunk = chunk; stripe = stripe })
@@ -105,13 +105,13 @@ leads_test S =
 
 -- ---- entries, doomed inodes, sessions and next numbers
 
-abbrev pub is_inside : TypedRows → ℕ → DentRow → Bool
-is_inside S dir e =
+abbrev pub is_dir_inside : TypedRows → ℕ → DentRow → Bool
+is_dir_inside S dir e =
     not (is_kind e.kind kinds.Dir) || some_passes (λ parent. parent == dir) (parent_at S e.inode)
 
 abbrev pub is_entry : TypedRows → ℕ → DentRow → Bool
 is_entry S dir e =
-    has_kind S dir kinds.Dir && (has_kind S e.inode e.kind && (not (e.inode == 0) && is_inside S dir e))
+    has_kind S dir kinds.Dir && (has_kind S e.inode e.kind && (not (e.inode == 0) && is_dir_inside S dir e))
 
 abbrev pub entry_test : TypedRows → Bool
 entry_test S = all_pass (λ (key : ℕ × List ℕ) e. is_entry S key.0 e) S.dents

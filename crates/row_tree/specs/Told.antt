@@ -9,8 +9,8 @@ use Rattle.row_records.specs.declared.rows.DentRow.{DentRow}
 use Rattle.row_tree.specs.TypedRows.{kind_of}
 
 -- a name with its row, as it is listed
-abbrev pub listed : List ℕ × DentRow → DirEntry
-listed e = record { name = e.0; inode = e.1.inode; kind = e.1.kind }
+abbrev pub listed_entry : List ℕ × DentRow → DirEntry
+listed_entry e = record { name = e.0; inode = e.1.inode; kind = e.1.kind }
 
 abbrev pub length_at : InodePart → ℕ
 length_at (parts.Dir parent chunk stripe) = 0

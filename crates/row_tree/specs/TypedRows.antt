@@ -38,13 +38,13 @@ no_rows =
     record { inodes = empty; dents = empty; sessions = empty; kept = empty; doomed = empty; next = empty }
 
 -- what stands at a key
-abbrev pub lookup : TypedRows → Key → Option Value
-lookup S (keys.Alloc server) = option_map AllocValue (get S.next server)
-lookup S (keys.Dent dir name) = option_map DentValue (get S.dents (dir, name))
-lookup S (keys.Gc id) = option_map GcValue (get S.doomed id)
-lookup S (keys.Idem client) = option_map KeptValue (get S.kept client.0)
-lookup S (keys.Inode id) = option_map InodeValue (get S.inodes id)
-lookup S (keys.Session inode client number) =
+abbrev pub value_at : TypedRows → Key → Option Value
+value_at S (keys.Alloc server) = option_map AllocValue (get S.next server)
+value_at S (keys.Dent dir name) = option_map DentValue (get S.dents (dir, name))
+value_at S (keys.Gc id) = option_map GcValue (get S.doomed id)
+value_at S (keys.Idem client) = option_map KeptValue (get S.kept client.0)
+value_at S (keys.Inode id) = option_map InodeValue (get S.inodes id)
+value_at S (keys.Session inode client number) =
     option_map SessionValue (get S.sessions (inode, (client.0, number)))
 
 -- the rows with a value put at a key, or taken away
@@ -67,11 +67,11 @@ of_form (keys.Inode id) v = option_map InodeValue (as_inode v)
 of_form (keys.Session inode client number) v = option_map SessionValue (as_session v)
 
 -- a directory's rows, in order of names
-abbrev pub in_dir : ℕ → (ℕ × List ℕ) × DentRow → Option (List ℕ × DentRow)
-in_dir dir e = cond (e.0.0 == dir) (Some (e.0.1, e.1)) None
+abbrev pub named_in_dir : ℕ → (ℕ × List ℕ) × DentRow → Option (List ℕ × DentRow)
+named_in_dir dir e = cond (e.0.0 == dir) (Some (e.0.1, e.1)) None
 
 abbrev pub dir_rows : TypedRows → ℕ → List (List ℕ × DentRow)
-dir_rows S dir = filter_map (in_dir dir) (entries S.dents)
+dir_rows S dir = filter_map (named_in_dir dir) (entries S.dents)
 
 abbrev pub kind_of : InodePart → Kind
 kind_of (parts.Dir parent chunk stripe) = kinds.Dir

@@ -20,8 +20,8 @@ abbrev pub HasKind : TypedRows → ℕ → Kind → Type 0
 HasKind S id kind = (row : InodeRow) × (get S.inodes id ≡ Some row) × (kind_of row.part ≡ kind)
 
 -- a number that a server has given: 16 times a number from 1 to below its next, and the server
-abbrev pub IsGiven : TypedRows → ℕ → Type 0
-IsGiven S id = (1 ≤ id / 16) × (id / 16 < next_at S.next (id % 16))
+abbrev pub IsIdGiven : TypedRows → ℕ → Type 0
+IsIdGiven S id = (1 ≤ id / 16) × (id / 16 < next_at S.next (id % 16))
 
 -- up by parent ids to the root, along these ids
 abbrev pub IsPath : TypedRows → ℕ → List ℕ → Type 0
@@ -37,7 +37,7 @@ pub record IsEntry (S : TypedRows) (dir : ℕ) (e : DentRow) : Type 0 where
 
 -- an inode besides the root: as many entries as it counts, one for a directory, at least one for a link
 pub record IsLinked (S : TypedRows) (id : ℕ) (row : InodeRow) : Type 0 where
-  pub given : IsGiven S id
+  pub given : IsIdGiven S id
   pub count : row.links ≡ entries_to S id
   pub dir : kind_of row.part ≡ kinds.Dir → row.links ≡ 1
   pub link : kind_of row.part ≡ kinds.Link → 1 ≤ row.links
@@ -50,8 +50,8 @@ pub record IsRootRow (row : InodeRow) : Type 0 where
 
 -- a default that the configuration admits; a layout that a file of this id may have, with 1 to all of its
 -- places in use
-abbrev pub IsLayout : Settings → ℕ → Layout → Type 0
-IsLayout C id layout =
+abbrev pub IsFileLayout : Settings → ℕ → Layout → Type 0
+IsFileLayout C id layout =
     let given : DefaultLayout = record { chunk = layout.chunk; stripe = layout.stripe } in
     IsTrue (admits C given) × (layout ≡ layout_at C id given)
 
@@ -59,7 +59,7 @@ abbrev pub FitsConfig : Settings → ℕ → InodePart → Type 0
 FitsConfig C id (parts.Dir parent chunk stripe) =
     IsTrue (admits C (record { chunk = chunk; stripe = stripe }))
 FitsConfig C id (parts.File length truncs layout hint) =
-    IsLayout C id layout × (1 ≤ hint) × (hint ≤ layout.stripe)
+    IsFileLayout C id layout × (1 ≤ hint) × (hint ≤ layout.stripe)
 FitsConfig C id (parts.Link target) = Unit {0}
 
 -- waiting: a file that no entry leads to; purged: no inode, and a layout of the id, by which chunks are found
@@ -67,7 +67,7 @@ abbrev pub IsDoomed : Settings → TypedRows → ℕ → GcRow → Type 0
 IsDoomed C S id Waiting =
     (row : InodeRow) × (get S.inodes id ≡ Some row) × (kind_of row.part ≡ kinds.File) × (row.links ≡ 0)
 IsDoomed C S id (Purged layout hint) =
-    (get S.inodes id ≡ None) × IsLayout C id layout × (1 ≤ hint) × (hint ≤ layout.stripe)
+    (get S.inodes id ≡ None) × IsFileLayout C id layout × (1 ≤ hint) × (hint ≤ layout.stripe)
 
 -- What makes typed rows those of a tree, together with `Spells` of their bytes.
 pub record IsWellFormed (C : Settings) (S : TypedRows) : Type 0 where
@@ -76,7 +76,7 @@ pub record IsWellFormed (C : Settings) (S : TypedRows) : Type 0 where
   pub fits : (id : ℕ) (row : InodeRow) → get S.inodes id ≡ Some row → FitsConfig C id row.part
   pub leads : (id : ℕ) → HasKind S id kinds.Dir → (path : List ℕ) × IsPath S id path
   pub entry : (dir : ℕ) (name : List ℕ) (e : DentRow) → get S.dents (dir, name) ≡ Some e → IsEntry S dir e
-  pub doomed : (id : ℕ) (g : GcRow) → get S.doomed id ≡ Some g → IsDoomed C S id g × IsGiven S id
+  pub doomed : (id : ℕ) (g : GcRow) → get S.doomed id ≡ Some g → IsDoomed C S id g × IsIdGiven S id
   pub session : (inode client number stamp : ℕ) → get S.sessions (inode, (client, number)) ≡ Some stamp
       → HasKind S inode kinds.File
   pub numbers : (server next : ℕ) → get S.next server ≡ Some next → (1 ≤ next) × (next < 2 ^ 32)

@@ -1,7 +1,7 @@
 ghost use Rattle.std.specs.Prelude.{◌≡◌, ◌==◌};
 ghost use Rattle.std.specs.FinMap.{get};
 ghost use Rattle.row_tree.specs.TypedRows.{parent_at};
-ghost use Rattle.row_tree.specs.Deciding.{some_passes, names_root, is_root_row, is_waiting, counts_fit, is_layout, is_used, fits_config, is_inside, is_entry, is_unlinked_file, is_doomed, number_test};
+ghost use Rattle.row_tree.specs.Deciding.{some_passes, names_root, is_root_row, is_waiting, counts_fit, is_file_layout, is_used, fits_config, is_dir_inside, is_entry, is_unlinked_file, is_doomed, number_test};
 
 use crate::typed::{TypedRows, is_kind, kind_of};
 use fs_base::limits::SERVERS;
@@ -41,7 +41,7 @@ fn is_unlinked_file(row: &InodeRow) -> bool
 }
 
 fn is_layout(config: &Config, id: u64, layout: &Layout) -> bool
-    ensures { result ≡ is_layout config.now id layout.now }
+    ensures { result ≡ is_file_layout config.now id layout.now }
 {
     let given = DefaultLayout {
         chunk: layout.chunk,
@@ -107,7 +107,7 @@ impl TypedRows {
     }
 
     fn is_inside(&self, dir: u64, e: &DentRow) -> bool
-        ensures { result ≡ is_inside self.now dir e.now }
+        ensures { result ≡ is_dir_inside self.now dir e.now }
     {
         !is_kind(e.kind, Kind::Dir) || self.is_child(e.inode.get(), dir)
     }

@@ -23,9 +23,9 @@ use Rattle.row_records.specs.declared.rows.GcRow.{GcRow}
 use Rattle.tree_model.specs.Tree.{Tree}
 use Rattle.tree_model.proofs.MapLaws.{decide, ids, len-map_values, not_some, same_some, some_or_none}
 use Rattle.row_tree.specs.HasTree.{HasTree}
-use Rattle.row_tree.specs.Spelling.{AreGcRows, Spells, spelled_gc}
+use Rattle.row_tree.specs.Spelling.{AreGcRows, Spells, spelled_gc_row}
 use Rattle.row_tree.specs.TreeOf.{doom_of}
-use Rattle.row_tree.specs.TypedRows.{TypedRows, lookup}
+use Rattle.row_tree.specs.TypedRows.{TypedRows, value_at}
 use Rattle.row_tree.specs.Values.{GcValue, IsValue, spelled_value}
 use Rattle.row_tree.proofs.OneValue.{one_value_each}
 use Rattle.row_tree.proofs.OtherRanges.{doomed_read, range_row}
@@ -48,11 +48,11 @@ is_gc R S spells key value is =
     let row = range_row R S spells 71 (codes "COL") key value is in
     let id = from_le_bytes w64 (take 8 (drop 4 (all_doomed ++ row.has.rest))) in
     let own : row.has.key ≡ keys.Gc id = sym (key_of-spelled_key row.has.key (spellable row.has.key row.has.valid)) ∙ (ap key_of row.has.at ∙ gc_at row.has.rest) in
-    let there : lookup S (keys.Gc id) ≡ Some row.has.value = sym (ap (lookup S) own) ∙ row.has.there in
+    let there : value_at S (keys.Gc id) ≡ Some row.has.value = sym (ap (value_at S) own) ∙ row.has.there in
     elim (some_or_none (get S.doomed id)) [
       | inl none ↦ absurd (not_some row.has.value (ap (option_map GcValue) none) there)
       | inr found ↦
-          let at : lookup S (keys.Gc id) ≡ Some (GcValue found.0) = ap (option_map GcValue) found.1 in
+          let at : value_at S (keys.Gc id) ≡ Some (GcValue found.0) = ap (option_map GcValue) found.1 in
           let fits = spells.fits (keys.Gc id) (GcValue found.0) at in
           record { row = (id, found.0); key_is = row.key ∙ ap spelled_key own; value_is = sym row.value ∙ ap spelled_value (same_some row.has.value (GcValue found.0) there at); small = fits.0; valid = fits.1 }
     ]
@@ -65,7 +65,7 @@ later row rows above key value is =
     (λ e. ap (λ o. cond (is_eq o) (Some row.value) (value_at_key rows key)) e ∙ is)
 
 listed : (rows : List Row) → IsAscending rows → ((key value : List ℕ) → value_at_key rows key ≡ Some value → IsGc key value)
-    → (es : List (ℕ × GcRow)) × (rows ≡ map spelled_gc es) × AreGcRows es
+    → (es : List (ℕ × GcRow)) × (rows ≡ map spelled_gc_row es) × AreGcRows es
 listed [] asc told = ([], refl, tt)
 listed (row ∷ rows) asc told =
     let first = told row.key row.value (value_head row rows) in
@@ -73,7 +73,7 @@ listed (row ∷ rows) asc told =
     (first.row ∷ rest.0, (λ i. record { key = first.key_is i; value = first.value_is i } ∷ rest.1 i), ((first.small, first.valid), rest.2))
 
 -- no two of them have one number
-apart : (id : ℕ) (es : List (ℕ × GcRow)) → KeysAbove (spelled_key (keys.Gc id)) (map spelled_gc es) → find nat_cmp id es ≡ None
+apart : (id : ℕ) (es : List (ℕ × GcRow)) → KeysAbove (spelled_key (keys.Gc id)) (map spelled_gc_row es) → find nat_cmp id es ≡ None
 apart id [] above = refl
 apart id (e ∷ es) above = elim (decide ids id e.0) [
   | inl same ↦
@@ -82,7 +82,7 @@ apart id (e ∷ es) above = elim (decide ids id e.0) [
   | inr other ↦ ap (λ b. cond b (Some e.1) (find nat_cmp id es)) other.1 ∙ apart id es above.1
 ]
 
-counted : (es : List (ℕ × GcRow)) → IsAscending (map spelled_gc es) → len (from_entries {R = nat_cmp} es) ≡ length es
+counted : (es : List (ℕ × GcRow)) → IsAscending (map spelled_gc_row es) → len (from_entries {R = nat_cmp} es) ≡ length es
 counted [] asc = len-empty nat_cmp GcRow
 counted (e ∷ es) asc =
     let more = len-insert ids.total (from_entries {R = nat_cmp} es) e.0 e.1 in
@@ -94,7 +94,7 @@ of_rows : (R : List Row) (S : TypedRows) → IsAscending R → Spells R S → le
 of_rows R S asc spells =
     let inside = IsAscending-range_rows R all_doomed (raised all_doomed) asc in
     let es = listed (range_rows R all_doomed (raised all_doomed)) inside (is_gc R S spells) in
-    ap length es.1 ∙ (length-map es.0 spelled_gc ∙ (sym (counted es.0 (subst IsAscending es.1 inside)) ∙ ap len (doomed_read one_value_each R S spells es.0 es.1 es.2)))
+    ap length es.1 ∙ (length-map es.0 spelled_gc_row ∙ (sym (counted es.0 (subst IsAscending es.1 inside)) ∙ ap len (doomed_read one_value_each R S spells es.0 es.1 es.2)))
 
 pub doomed_rows : (C : Settings) (R : List Row) (T : Tree) → IsAscending R → HasTree C R T → length (range_rows R all_doomed (raised all_doomed)) ≡ len T.doomed
 doomed_rows C R T asc (S, spells, good, is) = subst (λ (V : Tree). length (range_rows R all_doomed (raised all_doomed)) ≡ len V.doomed) is (of_rows R S asc spells ∙ sym (len-map_values nat_cmp doom_of S.doomed))

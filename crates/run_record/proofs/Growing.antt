@@ -20,8 +20,8 @@ use Rattle.histories.proofs.Lists.{at_longer, at_within}
 use Rattle.histories.proofs.Versions.{tree_at-longer}
 use Rattle.run_record.specs.Legal.{EntryAt, journal_rows, writes_of}
 use Rattle.run_record.specs.Outcomes.{IsOutcome, IsSeen, NamesEntry, Shows}
-use Rattle.run_record.specs.Receipts.{front_of, outcome_of, AreConflicts, AreLater, AreReceipts, IsAnswered, IsMadeBy, IsServed, MayMeetAll, StaysInside}
-use Rattle.run_record.specs.Touched.{IsTouched}
+use Rattle.run_record.specs.Receipts.{front_of, outcome_of, AreConflicts, AreLater, AreReceipts, IsAnsweredReceipt, IsMadeBy, IsServedReceipt, MayMeetAll, StaysInside}
+use Rattle.run_record.specs.Touched.{IsKeyTouched}
 use Rattle.run_record.specs.declared.run.Listed.{Listed}
 
 -- ---- entries
@@ -56,7 +56,7 @@ module _ (C : Settings) (es more : List Entry) where
       let within : later.0.place < length es = at_within es later.0.place later.0.entry later.0.at in
       let here : h.0.snapshot ≤ length es = omega (arith, later.0.version, h.0.before) in
       search (
-        subst (λ (T : Tree). IsTouched (footprint C T request) pair.1)
+        subst (λ (T : Tree). IsKeyTouched (footprint C T request) pair.1)
             (sym (tree_at-longer C es more h.0.snapshot here)) h.0.touched,
         MayMeetAll-longer request client pair.0 pairs later.1 h.1,
       )
@@ -86,7 +86,7 @@ module _ (C : Settings) (es more : List Entry) where
         ]) h
 
     -- the new entries have no receipt yet
-    made_by : (client : ClientId) (listed : Listed) → IsServed C es client listed → IsMadeBy (es ++ more) listed.receipt
+    made_by : (client : ClientId) (listed : Listed) → IsServedReceipt C es client listed → IsMadeBy (es ++ more) listed.receipt
     made_by client listed h mark place e at version =
         let names : NamesEntry es h.request (front_of listed.fronts) (outcome_of listed.receipt) =
         subst (λ b. MatchBool b (NamesEntry es h.request (front_of listed.fronts) (outcome_of listed.receipt)) (IsSeen C es h.request (front_of listed.fronts) (outcome_of listed.receipt))) mark h.outcome in
@@ -97,9 +97,9 @@ module _ (C : Settings) (es more : List Entry) where
           | inr is ↦ absurd (let later : place ≡ length es + is.0 = is.1 in omega arith)
         ]
 
-    answered : (attempts : ℕ) (client : ClientId) (listed : Listed) → IsAnswered C attempts es client listed → IsAnswered C attempts (es ++ more) client listed
+    answered : (attempts : ℕ) (client : ClientId) (listed : Listed) → IsAnsweredReceipt C attempts es client listed → IsAnsweredReceipt C attempts (es ++ more) client listed
     answered attempts client listed h =
-        let s : IsServed C es client listed = h.served in
+        let s : IsServedReceipt C es client listed = h.served in
         let inside : StaysInside C (es ++ more) client listed =
         λ request mine of.
         MayMeetAll-longer request client (front_of listed.fronts) listed.receipt.conflicts s.conflicts
@@ -118,7 +118,7 @@ module _ (C : Settings) (es more : List Entry) where
       record {
         fronts = h.0.fronts;
         text = h.0.text;
-        by_server = (elim listed.receipt.server as (λ o. MatchOption o ⊥ (λ server. IsAnswered C attempts es client listed) → MatchOption o ⊥ (λ server. IsAnswered C attempts (es ++ more) client listed)) [
+        by_server = (elim listed.receipt.server as (λ o. MatchOption o ⊥ (λ server. IsAnsweredReceipt C attempts es client listed) → MatchOption o ⊥ (λ server. IsAnsweredReceipt C attempts (es ++ more) client listed)) [
           | None ↦ λ none. none
           | Some server ↦ λ is. answered attempts client listed is
         ]) h.0.by_server;

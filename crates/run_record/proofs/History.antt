@@ -19,7 +19,8 @@ use Rattle.fs_base.specs.declared.row.Row.{Row}
 use Rattle.key_schema.specs.Keys.{spelled_key}
 use Rattle.key_schema.specs.declared.key.Key.{Key}
 use Rattle.key_schema.specs.declared.key.Key.TheVariants as keys
-use Rattle.kv_store.specs.Journal.{after_all, is_written, last_writer, or_else, written_value, IsRun}
+use Rattle.kv_store.specs.Journal.{after_all, is_written, last_writer, or_else, written_value}
+use Rattle.kv_store.specs.Journal.{IsAgreedJournal}
 use Rattle.kv_store.proofs.JournalLemmas.{IsAscending-after_all, last_writer_more, value_more}
 use Rattle.path_walk.specs.Sound.{IsSoundEntry}
 use Rattle.row_records.specs.Rows.{spelled_kept, is_kept}
@@ -28,7 +29,7 @@ use Rattle.row_tree.specs.HasTree.{HasTree}
 use Rattle.row_tree.specs.Opening.{opening_bytes}
 use Rattle.row_tree.specs.Spelling.{Spells}
 use Rattle.row_tree.specs.TreeOf.{kept_of}
-use Rattle.row_tree.specs.TypedRows.{TypedRows, lookup}
+use Rattle.row_tree.specs.TypedRows.{TypedRows, value_at}
 use Rattle.row_tree.specs.Values.{KeptValue, spelled_value}
 use Rattle.row_tree.proofs.OneValue.{one_value_each}
 use Rattle.row_tree.proofs.SpellingLaws.{found_back, lookup-form, texts}
@@ -41,17 +42,17 @@ use Rattle.tree_model.proofs.MapLaws.{decide}
 use Rattle.txn_task.specs.Writes.{written_at}
 use Rattle.txn_task.specs.declared.messages.Entry.{Entry}
 use Rattle.histories.proofs.Versions.{place_or_end, tree_next}
-use Rattle.run_record.specs.Legal.{AreReplies, applied, EntryAt, IsLegal, IsOnce, journal_rows, reads_of, tree_after, tree_at, writes_of}
+use Rattle.run_record.specs.Legal.{AreReplies, applied, EntryAt, IsLegalJournal, IsOnce, journal_rows, reads_of, tree_after, tree_at, writes_of}
 use Rattle.run_record.specs.Sound.{IsSoundJournal}
 use Rattle.run_record.proofs.Keeping.{IsNew, kept_as, kept_own, kept_other}
 
 abbrev Run : Settings → List Row → List Entry → Type 0
-Run C rows es = IsRun reads_of writes_of (IsSoundEntry C) rows es
+Run C rows es = IsAgreedJournal reads_of writes_of (IsSoundEntry C) rows es
 
 -- ---- the rows are the tree's
 
 -- a sound entry leads the tree's rows to those of the tree after its call
-has_after : (C : Settings) (rows : List Row) (T : Tree) (e : Entry) → IsAscending rows → HasTree C rows T → IsSoundEntry C e → bytes.Agrees rows e.reads → HasTree C (with_writes rows e.writes.writes) (applied C T e).0
+has_after : (C : Settings) (rows : List Row) (T : Tree) (e : Entry) → IsAscending rows → HasTree C rows T → IsSoundEntry C e → bytes.RowsAgree rows e.reads → HasTree C (with_writes rows e.writes.writes) (applied C T e).0
 has_after C rows T e asc tree sound agrees =
     let made : (U : Tree) × HasTree C (with_writes rows e.writes.writes) U × (applied C T e ≡ (U, e.reply)) = sound.acts rows T asc tree agrees in
     subst (HasTree C (with_writes rows e.writes.writes)) (sym (ap (λ (p : Tree × Reply). p.0) made.2)) made.1
@@ -67,15 +68,15 @@ rows_tree C journal s n = tree_along C (opening_bytes C) (new_tree C) journal n 
 
 -- ---- each entry
 
-run_at : (C : Settings) (rows : List Row) (es : List Entry) (place : ℕ) (e : Entry) → Run C rows es → EntryAt es place e → IsSoundEntry C e × bytes.Agrees (after_all writes_of rows (take place es)) e.reads
+run_at : (C : Settings) (rows : List Row) (es : List Entry) (place : ℕ) (e : Entry) → Run C rows es → EntryAt es place e → IsSoundEntry C e × bytes.RowsAgree (after_all writes_of rows (take place es)) e.reads
 run_at C rows [] place e r at = absurd (let k : None ≡ Some e = at in cc)
 run_at C rows (x ∷ es) zero e r at =
     let same : x ≡ e = (let k : Some x ≡ Some e = at in cc) in
-    subst (λ (y : Entry). IsSoundEntry C y × bytes.Agrees rows y.reads) same (r.0, r.1)
+    subst (λ (y : Entry). IsSoundEntry C y × bytes.RowsAgree rows y.reads) same (r.0, r.1)
 run_at C rows (x ∷ es) (suc place) e r at = run_at C (with_writes rows x.writes.writes) es place e r.2 at
 
 -- the entry at a place is sound and agreed with the rows there
-pub entry_sound : (C : Settings) (journal : List Entry) → IsSoundJournal C journal → (place : ℕ) (e : Entry) → EntryAt journal place e → IsSoundEntry C e × bytes.Agrees (journal_rows C journal place) e.reads
+pub entry_sound : (C : Settings) (journal : List Entry) → IsSoundJournal C journal → (place : ℕ) (e : Entry) → EntryAt journal place e → IsSoundEntry C e × bytes.RowsAgree (journal_rows C journal place) e.reads
 entry_sound C journal s place e at = run_at C (opening_bytes C) journal place e s.run at
 
 -- ---- what is kept, from entry to entry
@@ -170,7 +171,7 @@ replies_along C rows T (e ∷ es) asc tree run =
       replies_along C (with_writes rows e.writes.writes) (applied C T e).0 es (IsAscending-with_writes rows e.writes.writes asc) (has_after C rows T e asc tree run.0 run.1) run.2,
     )
 
-pub legal : (C : Settings) (journal : List Entry) → IsSoundJournal C journal → IsLegal C journal
+pub legal : (C : Settings) (journal : List Entry) → IsSoundJournal C journal → IsLegalJournal C journal
 legal C journal s = record { replies = replies_along C (opening_bytes C) (new_tree C) journal s.ascending s.opening s.run; once = once C journal s }
 
 -- ---- kept replies as rows
@@ -198,7 +199,7 @@ kept_there : (rows : List Row) (S : TypedRows) (client : ClientId) (row : KeptRo
 unfolding spelled_value
 kept_there rows S client row spells small fits is =
     let k : Key = keys.Idem client in
-    let found = found_back (lookup S k) (spelled_kept row) (sym is ∙ spells.at k small) in
+    let found = found_back (value_at S k) (spelled_kept row) (sym is ∙ spells.at k small) in
     let same : found.0 ≡ KeptValue row = one_value_each k found.0 (KeptValue row) (lookup-form S k found.0 found.1) refl (spells.fits k found.0 found.1).1 fits found.2 in
     unkept (get S.kept client.0) row (found.1 ∙ ap Some same)
 
@@ -264,7 +265,7 @@ module _ (C : Settings) (journal : List Entry) (s : IsSoundJournal C journal) (c
   none_written : (place : ℕ) (e : Entry) → EntryAt journal place e → place < length journal → client.0 ≢ e.request.client.0 → written_value e.writes.writes key ≡ None
   none_written place e at l apart = written_once e.writes.writes key e.writes.ascending ∙ none (written_at e.writes.writes key) refl
     where
-      parts : IsSoundEntry C e × bytes.Agrees (journal_rows C journal place) e.reads
+      parts : IsSoundEntry C e × bytes.RowsAgree (journal_rows C journal place) e.reads
       parts = entry_sound C journal s place e at
 
       sound : IsSoundEntry C e

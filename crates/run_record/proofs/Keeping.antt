@@ -29,7 +29,7 @@ use Rattle.tree_model.specs.declared.walk.Walked.{Walked}
 use Rattle.tree_model.specs.declared.walk.Walked.TheVariants.{At, AtParent, NoName, Stopped}
 use Rattle.tree_model.specs.declared.walk.WalkEnd.TheVariants.{Follow, Parent}
 use Rattle.tree_model.specs.Calls.{after_kept, effect, effect_of, apply, is_query, settle}
-use Rattle.tree_model.specs.Creating.{make, make_at, add_child, add_in, unless_there, is_layout, new_dir, new_file, new_link}
+use Rattle.tree_model.specs.Creating.{make, make_at, add_child, add_in, unless_there, admits_given, new_dir, new_file, new_link}
 use Rattle.tree_model.specs.Effects.{Effect, Leaves, Makes, Settles, at_length, settled_by, refuses, on_path}
 use Rattle.tree_model.specs.Finding.{if_there, on_node}
 use Rattle.tree_model.specs.Tree.{Tree, new_tree, next_at}
@@ -111,7 +111,7 @@ module _ (C : Settings) (T : Tree) (server stamp : ℕ) (node : NewNode) where
   made (AtParent dir name) = free dir name (get T.entries (dir, name))
 
   makes : (place : Place) → Keeps T (make C T server stamp node place)
-  makes place = by_words (Keeps T) (path_of place.text) _ (λ code. tt) (λ path. by_choice (Keeps T) (is_layout C node.layout) _ _ (made (resolve T place.base path Parent)) tt)
+  makes place = by_words (Keeps T) (path_of place.text) _ (λ code. tt) (λ path. by_choice (Keeps T) (admits_given C node.layout) _ _ (made (resolve T place.base path Parent)) tt)
 
 pub update_keeps : (C : Settings) (T : Tree) (q : Request) (call : Call) → is_query call ≡ false → Keeps T (effect_of C T q call)
 update_keeps C T q (calls.Mkdir place mode layout) is = makes C T q.server q.stamp (new_dir mode layout) place

@@ -9,7 +9,7 @@ use Rattle.fs_base.specs.declared.ids.ClientId.{ClientId}
 use Rattle.txn_task.specs.declared.messages.Entry.{Entry}
 use Rattle.run_record.specs.Legal.{EntryAt}
 use Rattle.run_record.specs.Outcomes.{last_version, seen_by, IsSeen, NamesEntry}
-use Rattle.run_record.specs.Receipts.{AreReceipts, IsServed, Rises, front_of, outcome_of}
+use Rattle.run_record.specs.Receipts.{AreReceipts, IsServedReceipt, Rises, front_of, outcome_of}
 use Rattle.run_record.specs.Right.{names_place}
 use Rattle.run_record.specs.declared.run.Listed.{Listed}
 use Rattle.run_record.proofs.Rising.{last_version_above}
@@ -42,24 +42,24 @@ rises_rest floor listed rest h = lower (seen_by (outcome_of listed.receipt)) lis
 module _ (C : Settings) (attempts : ℕ) (journal : List Entry) (client : ClientId) where
   -- ---- one receipt
 
-  pub of_commit : (listed : Listed) (h : IsServed C journal client listed) → listed.receipt.committed ≡ true → NamesEntry journal h.request (front_of listed.fronts) (outcome_of listed.receipt)
+  pub of_commit : (listed : Listed) (h : IsServedReceipt C journal client listed) → listed.receipt.committed ≡ true → NamesEntry journal h.request (front_of listed.fronts) (outcome_of listed.receipt)
   of_commit listed h is = subst (λ b. MatchBool b (NamesEntry journal h.request (front_of listed.fronts) (outcome_of listed.receipt)) (IsSeen C journal h.request (front_of listed.fronts) (outcome_of listed.receipt))) is h.outcome
 
-  pub of_seen : (listed : Listed) (h : IsServed C journal client listed) → listed.receipt.committed ≡ false → IsSeen C journal h.request (front_of listed.fronts) (outcome_of listed.receipt)
+  pub of_seen : (listed : Listed) (h : IsServedReceipt C journal client listed) → listed.receipt.committed ≡ false → IsSeen C journal h.request (front_of listed.fronts) (outcome_of listed.receipt)
   of_seen listed h is = subst (λ b. MatchBool b (NamesEntry journal h.request (front_of listed.fronts) (outcome_of listed.receipt)) (IsSeen C journal h.request (front_of listed.fronts) (outcome_of listed.receipt))) is h.outcome
 
   -- the entry was made after the call began
-  pub entry_above : (listed : Listed) (h : IsServed C journal client listed) (is : listed.receipt.committed ≡ true) → front_of listed.fronts ≤ (of_commit listed h is).place
+  pub entry_above : (listed : Listed) (h : IsServedReceipt C journal client listed) (is : listed.receipt.committed ≡ true) → front_of listed.fronts ≤ (of_commit listed h is).place
   entry_above listed h is =
       let up : front_of listed.fronts ≤ last_version (front_of listed.fronts) listed.receipt.conflicts = last_version_above journal client (front_of listed.fronts) listed.receipt.conflicts h.conflicts in
       let above : last_version (front_of listed.fronts) listed.receipt.conflicts ≤ (of_commit listed h is).place = (of_commit listed h is).above in
       omega arith
 
   -- the call began with so much seen
-  pub front_above : (floor : ℕ) (listed : Listed) (rest : List Listed) (h : IsServed C journal client listed) → Rises floor (listed ∷ rest) → floor ≤ front_of listed.fronts
+  pub front_above : (floor : ℕ) (listed : Listed) (rest : List Listed) (h : IsServedReceipt C journal client listed) → Rises floor (listed ∷ rest) → floor ≤ front_of listed.fronts
   front_above floor listed rest h rises = rises.0
 
-  named_client : (listed : Listed) → IsServed C journal client listed → (place : ℕ) (e : Entry) → EntryAt journal place e → names_place place listed ≡ true → e.request.client ≡ client
+  named_client : (listed : Listed) → IsServedReceipt C journal client listed → (place : ℕ) (e : Entry) → EntryAt journal place e → names_place place listed ≡ true → e.request.client ≡ client
   named_client listed h place e at names =
       let parts : (listed.receipt.committed ≡ true) × (listed.receipt.version ≡ place + 1) = named_parts place listed names in
       let named : NamesEntry journal h.request (front_of listed.fronts) (outcome_of listed.receipt) = of_commit listed h parts.0 in

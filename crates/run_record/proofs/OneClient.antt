@@ -8,7 +8,7 @@ use Rattle.client_core.specs.declared.plan.Plan.{Plan}
 use Rattle.client_core.specs.declared.plan.Script.{Script}
 use Rattle.run_record.specs.OneClient.{commits_with, CountCommits}
 use Rattle.run_record.specs.Receipts.{AreReceipts, Rises}
-use Rattle.run_record.specs.Right.{AreSections, IsRight}
+use Rattle.run_record.specs.Right.{AreSections, IsRightRecord}
 use Rattle.run_record.specs.declared.run.Listed.{Listed}
 use Rattle.run_record.specs.declared.run.Record.{Record}
 use Rattle.client_core.proofs.Scripts.{scripts_are}
@@ -29,7 +29,7 @@ module _ (C : Settings) (attempts : ℕ) (journal : List Entry) (client : Client
       let version : listed.receipt.version ≡ commits_with v listed = version_counts v listed rest h rises named in
       (version, subst (λ n. CountCommits n rest) version (counted listed.receipt.version rest h.1 (rises_rest v listed rest rises) (named_rest C attempts journal client v listed rest h rises named)))
 
-pub one_client : (plan : Plan) (run : Record) (script : Script) → plan.clients ≡ script ∷ [] → IsRight plan run → CountCommits 0 run.receipts
+pub one_client : (plan : Plan) (run : Record) (script : Script) → plan.clients ≡ script ∷ [] → IsRightRecord plan run → CountCommits 0 run.receipts
 one_client plan run script one right =
     let sections : AreSections plan.config plan.attempts run.entries 0 (script ∷ []) run.receipts = subst (λ (scripts : List Script). AreSections plan.config plan.attempts run.entries 0 scripts run.receipts) (scripts_are plan ∙ one) right.sections in
     let whole : run.receipts ≡ sections.0 = sections.2 ∙ (ap (λ (xs : List Listed). sections.0 ++ xs) sections.4 ∙ append-nil sections.0) in

@@ -9,8 +9,8 @@ use Rattle.fs_base.specs.declared.reply.Reply.TheVariants.{Refused}
 use Rattle.tree_model.specs.Calls.{is_query}
 use Rattle.txn_task.specs.declared.messages.Entry.{Entry}
 use Rattle.txn_task.specs.declared.outcome.Outcome.{Outcome}
-use Rattle.run_record.specs.Outcomes.{last_version, seen_by, version_before, AreAttempts, IsSeen, IsSpent, MayTell, NamesEntry, Shows}
-use Rattle.run_record.specs.Receipts.{front_of, outcome_of, IsAnswered, IsServed, Rises}
+use Rattle.run_record.specs.Outcomes.{last_version, seen_by, version_before, AreAttempts, IsSeen, IsSpentOutcome, MayTell, NamesEntry, Shows}
+use Rattle.run_record.specs.Receipts.{front_of, outcome_of, IsAnsweredReceipt, IsServedReceipt, Rises}
 use Rattle.run_record.specs.declared.run.Listed.{Listed}
 
 -- a call that begins below a conflict of its client's call before
@@ -28,8 +28,8 @@ fewer : (attempts : ℕ) (reply : Reply) (met : ℕ) → (reply ≡ Refused code
 fewer attempts (Refused codes.Conflict) met other h = absurd (other refl)
 fewer attempts reply met other h = h
 
-module _ (C : Settings) (attempts : ℕ) (journal : List Entry) (client : ClientId) (listed : Listed) (whole : IsAnswered C attempts journal client listed) where
-  abbrev h : IsServed C journal client listed
+module _ (C : Settings) (attempts : ℕ) (journal : List Entry) (client : ClientId) (listed : Listed) (whole : IsAnsweredReceipt C attempts journal client listed) where
+  abbrev h : IsServedReceipt C journal client listed
   h = whole.served
 
   seen_is : listed.receipt.committed ≡ false → IsSeen C journal h.request (front_of listed.fronts) (outcome_of listed.receipt)
@@ -67,7 +67,7 @@ module _ (C : Settings) (attempts : ℕ) (journal : List Entry) (client : Client
   pub none_spent_elsewhere : listed.receipt.committed ≡ false → listed.receipt.reply ≡ Refused codes.Conflict
       → (listed.receipt.version < version_before (front_of listed.fronts) listed.receipt.conflicts) ⊎ (last_version (front_of listed.fronts) listed.receipt.conflicts ≤ listed.receipt.version) → ⊥
   none_spent_elsewhere seen is elsewhere =
-      let spent : IsSpent (front_of listed.fronts) (outcome_of listed.receipt) = subst (λ (reply : Reply). Shows C journal h.request (front_of listed.fronts) (outcome_of listed.receipt) reply) is (seen_is seen).shown in
+      let spent : IsSpentOutcome (front_of listed.fronts) (outcome_of listed.receipt) = subst (λ (reply : Reply). Shows C journal h.request (front_of listed.fronts) (outcome_of listed.receipt) reply) is (seen_is seen).shown in
       let from : version_before (front_of listed.fronts) listed.receipt.conflicts ≤ listed.receipt.version = spent.from in
       let before : listed.receipt.version < last_version (front_of listed.fronts) listed.receipt.conflicts = spent.before in
       elim elsewhere [ inl low ↦ omega arith | inr high ↦ omega arith ]

@@ -9,8 +9,8 @@ use Rattle.txn_task.specs.declared.messages.Entry.{Entry}
 use Rattle.txn_task.specs.declared.outcome.Outcome.{Outcome}
 use Rattle.txn_task.specs.declared.outcome.Receipt.{Receipt}
 use Rattle.client_core.specs.Client.{ClientView, has_ended, new_client}
-use Rattle.client_core.specs.Courses.{Course, after_courses, receipts_along, receipts_in}
-use Rattle.client_core.specs.Moved.{gone_from, moved}
+use Rattle.client_core.specs.Courses.{Course, after_courses, receipts_along, receipts_of_ask}
+use Rattle.client_core.specs.Moved.{gone_from, server_after_stops}
 use Rattle.client_core.specs.Single.{single_receipt, single_request}
 use Rattle.client_core.specs.declared.messages.ClientAsk.{ClientAsk}
 use Rattle.client_core.specs.declared.plan.Op.{Op}
@@ -46,14 +46,14 @@ module _ (C : Settings) (script : Script) (k : ℕ) where
 
   -- where no stop took it away a request is answered at home
   stays_home : (op : ℕ) (step : Op) (stops : List ℕ) (outcome : Outcome) → gone_from C script.home stops ≡ []
-      → (moved C script.home stops ≡ script.home)
+      → (server_after_stops C script.home stops ≡ script.home)
       × (course_receipt C script script.home op step (record { stops = stops; outcome = outcome }) ≡ single_receipt script op step outcome)
   stays_home op step [] outcome none = (refl, refl)
   stays_home op step (stop ∷ stops) outcome none = absurd (cc)
 
   -- one receipt, and then the others
   follow_first : (op : ℕ) (step : Op) (steps : List Op) (course : Course) (told : List Receipt)
-      → (moved C script.home course.stops ≡ script.home → (own : List Listed) → receipts_of own ≡ told → All (λ listed. listed.client ≡ k) own → All (λ listed. listed.receipt.gone ≡ []) own → Follow k script (op + 1) steps own)
+      → (server_after_stops C script.home course.stops ≡ script.home → (own : List Listed) → receipts_of own ≡ told → All (λ listed. listed.client ≡ k) own → All (λ listed. listed.receipt.gone ≡ []) own → Follow k script (op + 1) steps own)
       → (own : List Listed) → receipts_of own ≡ course_receipt C script script.home op step course ∷ told → All (λ listed. listed.client ≡ k) own → All (λ listed. listed.receipt.gone ≡ []) own → Follow k script op (step ∷ steps) own
   follow_first op step steps course told next [] is all gone = absurd (let f : [] ≡ course_receipt C script script.home op step course ∷ told = is in cc)
   follow_first op step steps course told next (l ∷ own) is all gone =
@@ -83,10 +83,10 @@ module _ (C : Settings) (script : Script) (k : ℕ) where
   follow_told op [] (l ∷ own) told ended all gone = absurd (let f : l.receipt ∷ receipts_of own ≡ [] = told in cc)
   follow_told op (course ∷ courses) own told ended all gone = elim (there_or_end script.ops op) [
     | inl there ↦
-        (let last : ℕ = moved C script.home course.stops in
+        (let last : ℕ = server_after_stops C script.home course.stops in
         let ask = answered_there C script script.home op there.0 course there.1 in
         let is : receipts_of own ≡ course_receipt C script script.home op there.0 course ∷ receipts_along (client_at C script last (op + 1)) courses
-        = told ∙ ap (λ (p : ClientView × ClientAsk). receipts_in p.1 ++ receipts_along p.0 courses) ask in
+        = told ∙ ap (λ (p : ClientView × ClientAsk). receipts_of_ask p.1 ++ receipts_along p.0 courses) ask in
         let end : has_ended (after_courses (client_at C script last (op + 1)) courses) ≡ true = ap (λ (p : ClientView × ClientAsk). has_ended (after_courses p.0 courses)) (sym ask) ∙ ended in
         subst (λ (steps : List Op). Follow k script op steps own) (sym there.2)
         (follow_first op there.0 (drop (suc op) script.ops) course (receipts_along (client_at C script last (op + 1)) courses)
@@ -98,7 +98,7 @@ module _ (C : Settings) (script : Script) (k : ℕ) where
         own is all gone))
     | inr end ↦
         (let ask = answered_end C script script.home op course end.0 in
-        follow_told op courses own (told ∙ ap (λ (p : ClientView × ClientAsk). receipts_in p.1 ++ receipts_along p.0 courses) ask)
+        follow_told op courses own (told ∙ ap (λ (p : ClientView × ClientAsk). receipts_of_ask p.1 ++ receipts_along p.0 courses) ask)
         (ap (λ (p : ClientView × ClientAsk). has_ended (after_courses p.0 courses)) (sym ask) ∙ ended) all gone)
   ]
 

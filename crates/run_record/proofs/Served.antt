@@ -7,18 +7,18 @@ use Rattle.fs_base.specs.declared.call.Request.{Request}
 use Rattle.fs_base.specs.declared.ids.ClientId.{ClientId}
 use Rattle.txn_task.specs.declared.messages.Entry.{Entry}
 use Rattle.txn_task.specs.declared.outcome.Receipt.{Receipt}
-use Rattle.run_record.specs.Receipts.{IsAnswered, IsOf, IsReceipt, IsServed}
+use Rattle.run_record.specs.Receipts.{IsAnsweredReceipt, IsOf, IsReceipt, IsServedReceipt}
 use Rattle.run_record.specs.declared.run.Listed.{Listed}
 
 -- each receipt is a server's
-pub answered : {C : Settings} {attempts : ℕ} {journal : List Entry} {client : ClientId} {listed : Listed} → IsReceipt C attempts journal client listed → IsAnswered C attempts journal client listed
+pub answered : {C : Settings} {attempts : ℕ} {journal : List Entry} {client : ClientId} {listed : Listed} → IsReceipt C attempts journal client listed → IsAnsweredReceipt C attempts journal client listed
 answered {C} {attempts} {journal} {client} {listed} h = one_of listed.receipt.server h.by_server
   where
-    one_of : (o : Option ℕ) → MatchOption o ⊥ (λ server. IsAnswered C attempts journal client listed) → IsAnswered C attempts journal client listed
+    one_of : (o : Option ℕ) → MatchOption o ⊥ (λ server. IsAnsweredReceipt C attempts journal client listed) → IsAnsweredReceipt C attempts journal client listed
     one_of None none = absurd none
     one_of (Some server) is = is
 
-pub served : {C : Settings} {attempts : ℕ} {journal : List Entry} {client : ClientId} {listed : Listed} → IsReceipt C attempts journal client listed → IsServed C journal client listed
+pub served : {C : Settings} {attempts : ℕ} {journal : List Entry} {client : ClientId} {listed : Listed} → IsReceipt C attempts journal client listed → IsServedReceipt C journal client listed
 served h = (answered h).served
 
 -- ---- requests by their parts

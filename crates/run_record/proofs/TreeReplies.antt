@@ -6,7 +6,7 @@ use Rattle.std.specs.Option.{ok_or}
 use Rattle.fs_base.specs.Config.{Settings}
 use Rattle.fs_base.specs.Gives.{◌>>=◌, each_from}
 use Rattle.fs_base.specs.Names.{is_dot_dot, is_name, name_of}
-use Rattle.fs_base.specs.Paths.{components, is_path_text, name_at, names_of, path_of}
+use Rattle.fs_base.specs.Paths.{components, is_path_text, component_name, names_of, path_of}
 use Rattle.fs_base.specs.declared.call.Call.{Call}
 use Rattle.fs_base.specs.declared.call.Call.TheVariants as calls
 use Rattle.fs_base.specs.declared.call.Changes.{Changes}
@@ -34,7 +34,7 @@ use Rattle.tree_model.specs.declared.walk.WalkEnd.{WalkEnd}
 use Rattle.tree_model.specs.declared.walk.WalkEnd.TheVariants.{Follow, NoFollow, Parent}
 use Rattle.tree_model.specs.Attributes.{attributes_of, changed, count_to}
 use Rattle.tree_model.specs.Calls.{apply, effect, effect_of, is_query, settle}
-use Rattle.tree_model.specs.Creating.{id_of, is_layout, part_for, with_child, add_numbered, add_in, add_child, unless_there, make_at, new_dir, new_file, new_link}
+use Rattle.tree_model.specs.Creating.{id_of, admits_given, part_for, with_child, add_numbered, add_in, add_child, unless_there, make_at, new_dir, new_file, new_link}
 use Rattle.tree_model.specs.Effects.{Effect, Leaves, Makes, Settles, at_length, on_path, refuses, settled_by}
 use Rattle.tree_model.specs.Finding.{found_of, if_there, list_at, readlink_at, setattr_at, stat_at, target_of}
 use Rattle.tree_model.specs.Linking.{at_name, is_empty_dir, link_at, link_in, link_to, link_under, rmdir_at, rmdir_entry, rmdir_part, unlink_at, unlink_entry, unlink_part, with_link, without_dir}
@@ -70,7 +70,7 @@ name_of_well bytes = by_test (is_name bytes)
     by_test true = tt
     by_test false = tt
 
-name_at_well : (part : List ℕ) → ReadsWell (name_at part)
+name_at_well : (part : List ℕ) → ReadsWell (component_name part)
 name_at_well part = by_dots (is_dot_dot part)
   where
     by_dots : (b : Bool) → ReadsWell {X = List ℕ} (cond b (Err codes.BadPath) (name_of part))
@@ -82,10 +82,10 @@ both_well (Err code) rest h k = h
 both_well (Ok y) (Err code) h k = k
 both_well (Ok y) (Ok ys) h k = tt
 
-each_well : (parts : List (List ℕ)) (i : ℕ) → ReadsWell (each_from (λ _ part. name_at part) i parts)
+each_well : (parts : List (List ℕ)) (i : ℕ) → ReadsWell (each_from (λ _ part. component_name part) i parts)
 unfolding each_from
 each_well [] i = tt
-each_well (part ∷ parts) i = both_well (name_at part) (each_from (λ _ p. name_at p) (i + 1) parts) (name_at_well part) (each_well parts (i + 1))
+each_well (part ∷ parts) i = both_well (component_name part) (each_from (λ _ p. component_name p) (i + 1) parts) (name_at_well part) (each_well parts (i + 1))
 
 names_well : (absolute : Bool) (r : Result (List (List ℕ)) Code) → ReadsWell r → ReadsWell {X = Path} (r >>= λ names. Ok (record { absolute = absolute; names = names }))
 names_well absolute (Err code) h = h
@@ -443,11 +443,11 @@ call_well C T q (calls.Readlink place) = by_path place.text (λ path. readlink_a
 call_well C T q (calls.Openr place) = open_well T place (λ file. Leaves (replies.File file)) (λ file. tt)
 call_well C T q (calls.Fstat session) = on_file_well (session_file T q.client session) (λ file. Leaves (replies.File file)) (session_well T q.client session) (λ file. tt)
 call_well C T q (calls.Mkdir place mode layout) =
-    by_path place.text (λ path. if is_layout C layout then make_at C T q.server q.stamp (new_dir mode layout) (resolve T place.base path Parent) else refuses codes.BadLayout)
-    (λ path. layout_well C T q.server q.stamp (new_dir mode layout) (is_layout C layout) (resolve T place.base path Parent) (resolve_well T place.base path Parent))
+    by_path place.text (λ path. if admits_given C layout then make_at C T q.server q.stamp (new_dir mode layout) (resolve T place.base path Parent) else refuses codes.BadLayout)
+    (λ path. layout_well C T q.server q.stamp (new_dir mode layout) (admits_given C layout) (resolve T place.base path Parent) (resolve_well T place.base path Parent))
 call_well C T q (calls.Create place mode layout) =
-    by_path place.text (λ path. if is_layout C layout then make_at C T q.server q.stamp (new_file mode layout) (resolve T place.base path Parent) else refuses codes.BadLayout)
-    (λ path. layout_well C T q.server q.stamp (new_file mode layout) (is_layout C layout) (resolve T place.base path Parent) (resolve_well T place.base path Parent))
+    by_path place.text (λ path. if admits_given C layout then make_at C T q.server q.stamp (new_file mode layout) (resolve T place.base path Parent) else refuses codes.BadLayout)
+    (λ path. layout_well C T q.server q.stamp (new_file mode layout) (admits_given C layout) (resolve T place.base path Parent) (resolve_well T place.base path Parent))
 call_well C T q (calls.Symlink place target) =
     by_path place.text (λ path. on_path (path_of target) (λ leads. make_at C T q.server q.stamp (new_link target) (resolve T place.base path Parent)))
     (λ path. by_path target (λ leads. make_at C T q.server q.stamp (new_link target) (resolve T place.base path Parent))

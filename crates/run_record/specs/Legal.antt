@@ -7,7 +7,8 @@ use Rattle.fs_base.specs.declared.row.Row.{Row}
 use Rattle.kv_store.specs.Journal.{rows_at}
 use Rattle.row_tree.specs.Opening.{opening_bytes}
 use Rattle.txn_task.specs.declared.messages.Entry.{Entry}
-pub use Rattle.histories.specs.Journal.{EntryAt, applied, tree_after, tree_at, AreReplies, IsOnce, IsLegal}
+pub use Rattle.histories.specs.Journal.{EntryAt, applied, tree_after, tree_at, AreReplies, IsOnce}
+pub use Rattle.histories.specs.Journal.{IsLegalJournal}
 
 abbrev pub reads_of : Entry → ReadSet
 reads_of entry = entry.reads

@@ -50,7 +50,7 @@ pub record NamesEntry (journal : List Entry) (request : Request) (front : ℕ) (
 -- ---- seen
 
 -- the plain tree at the outcome's version gives the reply, and stays, whatever length is settled
-pub record IsTold (C : Settings) (journal : List Entry) (request : Request) (front : ℕ)
+pub record IsToldOutcome (C : Settings) (journal : List Entry) (request : Request) (front : ℕ)
     (outcome : Outcome) : Type 0 where
   pub from : last_version front outcome.conflicts ≤ outcome.version
   pub told : (settled : ℕ)
@@ -58,20 +58,20 @@ pub record IsTold (C : Settings) (journal : List Entry) (request : Request) (fro
       ≡ (tree_at C journal outcome.version, outcome.reply)
 
 -- the last attempt began behind the conflict before the last one, and met the last one
-pub record IsSpent (front : ℕ) (outcome : Outcome) : Type 0 where
+pub record IsSpentOutcome (front : ℕ) (outcome : Outcome) : Type 0 where
   pub from : version_before front outcome.conflicts ≤ outcome.version
   pub before : outcome.version < last_version front outcome.conflicts
 
 -- the journal takes no more
-pub record IsFull (journal : List Entry) (front : ℕ) (outcome : Outcome) : Type 0 where
+pub record IsFullOutcome (journal : List Entry) (front : ℕ) (outcome : Outcome) : Type 0 where
   pub from : last_version front outcome.conflicts ≤ outcome.version
   pub full : length journal ≡ JOURNAL_ENTRIES
 
 -- what is owed with each reply
 abbrev pub Shows : Settings → List Entry → Request → ℕ → Outcome → Reply → Type 0
-Shows C journal request front outcome (Refused codes.Conflict) = IsSpent front outcome
-Shows C journal request front outcome (Refused codes.StoreFull) = IsFull journal front outcome
-Shows C journal request front outcome reply = IsTold C journal request front outcome
+Shows C journal request front outcome (Refused codes.Conflict) = IsSpentOutcome front outcome
+Shows C journal request front outcome (Refused codes.StoreFull) = IsFullOutcome journal front outcome
+Shows C journal request front outcome reply = IsToldOutcome C journal request front outcome
 
 -- nothing has the reply; it was seen, no earlier than the call began
 pub record IsSeen (C : Settings) (journal : List Entry) (request : Request) (front : ℕ)

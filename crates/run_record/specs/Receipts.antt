@@ -16,7 +16,7 @@ use Rattle.client_core.specs.declared.plan.Script.{Script}
 use Rattle.run_record.specs.Legal.{EntryAt, tree_at}
 use Rattle.run_record.specs.ReplyText.{text_of}
 use Rattle.run_record.specs.Outcomes.{seen_by, AreAttempts, IsOutcome, MayTell}
-use Rattle.run_record.specs.Touched.{IsTouched}
+use Rattle.run_record.specs.Touched.{IsKeyTouched}
 use Rattle.run_record.specs.declared.run.Listed.{Listed}
 
 -- ---- requests and fronts
@@ -66,7 +66,7 @@ pub record MayMeet (C : Settings) (journal : List Entry) (request : Request) (fl
   pub snapshot : ℕ
   pub from : floor ≤ snapshot
   pub before : snapshot < pair.0
-  pub touched : IsTouched (footprint C (tree_at C journal snapshot) request) pair.1
+  pub touched : IsKeyTouched (footprint C (tree_at C journal snapshot) request) pair.1
 
 -- no attempt begins before the conflict of the one before
 abbrev pub MayMeetAll : Settings → List Entry → Request → ℕ → List (ℕ × Key) → Type 0
@@ -112,7 +112,8 @@ IsMadeBy journal receipt =
     → receipt.version ≡ place + 1 → WasSentTo receipt entry.request.server
 
 -- a server's receipt is that of a request, whose outcome it tells
-pub record IsServed (C : Settings) (journal : List Entry) (client : ClientId) (listed : Listed) : Type 0 where
+pub record IsServedReceipt (C : Settings) (journal : List Entry) (client : ClientId)
+    (listed : Listed) : Type 0 where
   pub request : Request
   pub client_is : request.client ≡ client
   pub is_of : IsOf request listed.receipt
@@ -129,9 +130,9 @@ StaysInside C journal client listed =
 
 -- a server's receipt, and what the plan and the footprint say of it; the first is all that a record shows
 -- without its plan
-pub record IsAnswered (C : Settings) (attempts : ℕ) (journal : List Entry) (client : ClientId)
+pub record IsAnsweredReceipt (C : Settings) (attempts : ℕ) (journal : List Entry) (client : ClientId)
     (listed : Listed) : Type 0 where
-  pub served : IsServed C journal client listed
+  pub served : IsServedReceipt C journal client listed
   pub met : AreAttempts attempts listed.receipt.reply (length listed.receipt.conflicts)
   pub inside : StaysInside C journal client listed
 
@@ -141,7 +142,8 @@ pub record IsReceipt (C : Settings) (attempts : ℕ) (journal : List Entry) (cli
   pub fronts : listed.fronts ≡ fronts_of C (front_of listed.fronts)
   pub text : listed.text ≡ text_of listed.receipt.call listed.receipt.reply
   -- each call that is built is answered by a server
-  pub by_server : MatchOption listed.receipt.server ⊥ (λ server. IsAnswered C attempts journal client listed)
+  pub by_server : MatchOption listed.receipt.server ⊥
+      (λ server. IsAnsweredReceipt C attempts journal client listed)
 
 abbrev pub AreReceipts : Settings → ℕ → List Entry → ClientId → List Listed → Type 0
 AreReceipts C attempts journal client [] = Unit {0}

@@ -51,8 +51,8 @@ abbrev pub data_word : DataRun → List ℕ
 data_word r = decimal r.offset ++ (43 ∷ decimal r.len ++ (61 ∷ decimal r.fill))
 
 -- a list is its name, how many, and a word each
-abbrev pub listed : {A : Type 0} → List ℕ → (A → List ℕ) → List A → List (List ℕ)
-listed name word xs = name ∷ decimal (length xs) ∷ map word xs
+abbrev pub listed_words : {A : Type 0} → List ℕ → (A → List ℕ) → List A → List (List ℕ)
+listed_words name word xs = name ∷ decimal (length xs) ∷ map word xs
 
 abbrev pub attribute_words : Attributes → List (List ℕ)
 attribute_words a =
@@ -104,7 +104,7 @@ reply_words (replies.Made id) = codes "made" ∷ decimal id ∷ []
 reply_words replies.Done = codes "done" ∷ []
 reply_words (replies.Found id kind) = codes "found" ∷ decimal id ∷ kind_word kind ∷ []
 reply_words (replies.Attr a) = attribute_words a
-reply_words (replies.Names entries) = listed (codes "names") entry_word entries
+reply_words (replies.Names entries) = listed_words (codes "names") entry_word entries
 reply_words (replies.Target path) = codes "target" ∷ hex_word path ∷ []
 reply_words (replies.File info) = file_words info
 reply_words (replies.Hint places) = setting (codes "hint=") places ∷ []
@@ -113,11 +113,11 @@ reply_words (replies.Reported adopted length) =
 reply_words (replies.Settled length) = setting (codes "length=") length ∷ []
 reply_words (replies.Cut length truncs) =
     setting (codes "length=") length ∷ setting (codes "truncs=") truncs ∷ []
-reply_words (replies.Doomed inodes) = listed (codes "ids") doomed_word inodes
+reply_words (replies.Doomed inodes) = listed_words (codes "ids") doomed_word inodes
 reply_words (replies.Pruned sessions) = setting (codes "pruned=") sessions ∷ []
 reply_words (replies.Wrote bytes pieces) =
     setting (codes "bytes=") bytes ∷ setting (codes "pieces=") pieces ∷ []
-reply_words (replies.Data runs) = listed (codes "data") data_word runs
+reply_words (replies.Data runs) = listed_words (codes "data") data_word runs
 reply_words (replies.Swept files) = setting (codes "reaped=") files ∷ []
 reply_words (replies.Refused code) = code_words code
 

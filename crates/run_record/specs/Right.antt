@@ -2,7 +2,7 @@
 use Rattle.std.specs.Prelude.{◌≡◌, ℕ, ◌+◌, ◌<◌, ◌==◌, ◌&&◌, List, [], ◌∷◌, ◌++◌, length, map, count_by, slice_get, not, Option, Some, None, Bool, true, false, if◌then◌else◌}
 use Rattle.std.specs.List.{list_any}
 use Rattle.std.specs.FinMap.{len}
-use Rattle.conflict_sets.specs.Reads.{Agrees}
+use Rattle.conflict_sets.specs.Reads.{RowsAgree}
 use Rattle.fs_base.specs.Config.{Settings}
 use Rattle.fs_base.specs.declared.ids.ClientId.{ClientId}
 use Rattle.fs_base.specs.declared.reply.Reply.{Reply}
@@ -16,7 +16,7 @@ use Rattle.txn_task.specs.declared.messages.Entry.{Entry}
 use Rattle.client_core.specs.Scripts.{scripts_in}
 use Rattle.client_core.specs.declared.plan.Plan.{Plan}
 use Rattle.client_core.specs.declared.plan.Script.{Script}
-use Rattle.run_record.specs.Legal.{EntryAt, IsLegal, journal_rows, tree_at}
+use Rattle.run_record.specs.Legal.{EntryAt, IsLegalJournal, journal_rows, tree_at}
 use Rattle.run_record.specs.Receipts.{IsSection}
 use Rattle.run_record.specs.Touched.{AreTouched}
 use Rattle.run_record.specs.declared.run.Listed.{Listed}
@@ -30,7 +30,7 @@ IsNoRefusal reply = Unit {0}
 -- an entry is sound: a change that was done. It read what stood before it, its call's whole footprint and
 -- nothing else, and asked no storage node
 pub record IsRightEntry (C : Settings) (journal : List Entry) (place : ℕ) (entry : Entry) : Type 0 where
-  pub agrees : Agrees (journal_rows C journal place) entry.reads
+  pub agrees : RowsAgree (journal_rows C journal place) entry.reads
   pub sound : IsSoundEntry C entry
   pub touched : AreTouched (footprint C (tree_at C journal place) entry.request) entry.reads
   pub whole : AreRead entry.reads (footprint C (tree_at C journal place) entry.request)
@@ -101,11 +101,11 @@ summary_of C clients receipts entries = counts_of clients receipts entries (wait
 
 -- ---- the record
 
-pub record IsRight (plan : Plan) (run : Record) : Type 0 where
+pub record IsRightRecord (plan : Plan) (run : Record) : Type 0 where
   pub config : run.config ≡ plan.config
   pub clients : run.clients ≡ map (λ script. script.id) (scripts_in plan)
   -- the entries are a history of the plain tree; their rows are well formed at each version, and the tree's
-  pub legal : IsLegal plan.config run.entries
+  pub legal : IsLegalJournal plan.config run.entries
   pub rows : (n : ℕ)
       → HasTree plan.config (journal_rows plan.config run.entries n) (tree_at plan.config run.entries n)
   pub entries : (place : ℕ) (entry : Entry) → EntryAt run.entries place entry

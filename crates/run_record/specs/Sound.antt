@@ -2,7 +2,7 @@
 use Rattle.std.specs.Prelude.{ℕ, List}
 use Rattle.conflict_sets.specs.Rows.{IsAscending}
 use Rattle.fs_base.specs.Config.{Settings}
-use Rattle.kv_store.specs.Journal.{IsRun}
+use Rattle.kv_store.specs.Journal.{IsAgreedJournal}
 use Rattle.path_walk.specs.Sound.{IsSoundEntry}
 use Rattle.row_tree.specs.HasTree.{HasTree, AreWellFormed}
 use Rattle.row_tree.specs.Opening.{opening_bytes}
@@ -15,4 +15,4 @@ pub record IsSoundJournal (C : Settings) (journal : List Entry) : Type 0 where
   pub ascending : IsAscending (opening_bytes C)
   pub opening : HasTree C (opening_bytes C) (new_tree C)
   pub good : (n : ℕ) → AreWellFormed C (journal_rows C journal n)
-  pub run : IsRun reads_of writes_of (IsSoundEntry C) (opening_bytes C) journal
+  pub run : IsAgreedJournal reads_of writes_of (IsSoundEntry C) (opening_bytes C) journal

@@ -9,8 +9,8 @@ use Rattle.key_schema.specs.declared.key.Key.{Key}
 use Rattle.path_walk.specs.Areas.{Area, OneKey, IsArea, IsRangeArea, IsRangeOf}
 
 -- the key is one of the areas', or lies in a range of theirs
-abbrev pub IsTouched : List Area → Key → Type 0
-IsTouched areas key =
+abbrev pub IsKeyTouched : List Area → Key → Type 0
+IsKeyTouched areas key =
     IsArea (OneKey key) areas
     ⊎ ((lo : List ℕ) × (hi : List ℕ) × IsRangeArea lo hi areas × (is_inside lo hi (spelled_key key) ≡ true))
 

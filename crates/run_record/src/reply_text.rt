@@ -1,6 +1,6 @@
 ghost use Rattle.std.specs.Prelude.{◌≡◌, ◌++◌, ◌∷◌, [], codes, decimal, string_bytes, OnOk};
 ghost use Rattle.run_record.specs.Hex.{hex_word};
-ghost use Rattle.run_record.specs.ReplyText.{attribute_words, code_words, data_word, doomed_word, entry_word, file_words, flag, kind_word, limit_word, listed, phase_word, reply_words};
+ghost use Rattle.run_record.specs.ReplyText.{attribute_words, code_words, data_word, doomed_word, entry_word, file_words, flag, kind_word, limit_word, listed_words, phase_word, reply_words};
 ghost use Rattle.run_record.specs.Words.{joined, setting};
 
 use crate::hex::push_hex;
@@ -87,7 +87,7 @@ fn push_attributes(out: &mut String, attributes: &Attributes) -> Result<(), Allo
 fn push_entries(out: &mut String, entries: &[DirEntry]) -> Result<(), AllocError>
     ensures { OnOk result
         (string_bytes out.new ≡ string_bytes out.old
-        ++ joined (listed (codes "names") entry_word entries.now)) }
+        ++ joined (listed_words (codes "names") entry_word entries.now)) }
 {
     push_count(out, "names", entries.len())?;
     for entry in entries {
@@ -172,7 +172,7 @@ fn push_cut(out: &mut String, length: u64, truncs: u32) -> Result<(), AllocError
 
 fn push_doomed(out: &mut String, inodes: &[DoomedInode]) -> Result<(), AllocError>
     ensures { OnOk result
-        (string_bytes out.new ≡ string_bytes out.old ++ joined (listed (codes "ids") doomed_word inodes.now)) }
+        (string_bytes out.new ≡ string_bytes out.old ++ joined (listed_words (codes "ids") doomed_word inodes.now)) }
 {
     push_count(out, "ids", inodes.len())?;
     for inode in inodes {
@@ -209,7 +209,8 @@ fn push_wrote(out: &mut String, bytes: u64, pieces: u32) -> Result<(), AllocErro
 
 fn push_data(out: &mut String, runs: &[DataRun]) -> Result<(), AllocError>
     ensures { OnOk result
-        (string_bytes out.new ≡ string_bytes out.old ++ joined (listed (codes "data") data_word runs.now)) }
+        (string_bytes out.new ≡ string_bytes out.old
+        ++ joined (listed_words (codes "data") data_word runs.now)) }
 {
     push_count(out, "data", runs.len())?;
     for run in runs {

@@ -9,12 +9,12 @@ abbrev pub list_of : Items → List Data
 list_of no_items = []
 list_of (item d ds) = d ∷ list_of ds
 
-abbrev pub names_in : Members → List (List ℕ)
-names_in no_members = []
-names_in (member name d ms) = name ∷ names_in ms
+abbrev pub member_names : Members → List (List ℕ)
+member_names no_members = []
+member_names (member name d ms) = name ∷ member_names ms
 
 abbrev pub only_keys : List (List ℕ) → Members → Bool
-only_keys known ms = list_all (λ name. list_any (λ k. bytes_eq name k) known) (names_in ms)
+only_keys known ms = list_all (λ name. list_any (λ k. bytes_eq name k) known) (member_names ms)
 
 -- an object with no key but these
 abbrev pub has_only : List (List ℕ) → Data → Bool

@@ -31,8 +31,8 @@ kind_table =
     ∷ (codes "lookup", kinds.Lookup) ∷ (codes "stat", kinds.Stat) ∷ (codes "list", kinds.List)
     ∷ (codes "readlink", kinds.Readlink) ∷ []
 
-abbrev pub kind_of : List ℕ → Option OpKind
-kind_of name = named name kind_table
+abbrev pub kind_of_op : List ℕ → Option OpKind
+kind_of_op name = named name kind_table
 
 -- the keys that an operation has beside those of every one
 abbrev pub own_keys : OpKind → List (List ℕ)
@@ -121,7 +121,7 @@ op_with kinds.Readlink stamp place d = Ok (ops.Readlink stamp place)
 unfoldable pub op_of : Data → Result Op Broken
 op_of d = do
   name ← ok_or (text_at (codes "op") d) not_built
-  kind ← ok_or (kind_of name) not_built
+  kind ← ok_or (kind_of_op name) not_built
   keys ← need (has_only (keys_of kind) d) not_built
   stamp ← number_or (codes "time") TIMES 0 d
   place ← first_place d

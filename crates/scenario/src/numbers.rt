@@ -4,7 +4,7 @@ ghost use Rattle.std.specs.Prelude.{◌≡◌, ◌≤◌, ◌<◌, ◌^◌, IfOk
 ghost use Rattle.serde_json.specs.View.{view};
 ghost use Rattle.serde_json.specs.Find.{get};
 ghost use Rattle.scenario.specs.Numbers.{count_or, number_at, number_or, whole_number};
-ghost use Rattle.client_core.specs.Plans.{IsBelow};
+ghost use Rattle.client_core.specs.Plans.{IsGivenBelow};
 
 use crate::broken::{Broken, need, not_built};
 use serde_json::Value;
@@ -19,7 +19,7 @@ pub fn whole_number(value: &Value) -> Option<u64>
 /// The number below the limit at a key; `None` where the key is missing.
 pub fn number_at(value: &Value, name: &str, limit: u64) -> Result<Option<u64>, Broken>
     ensures gives { result ≡ number_at name.now limit (view value.now) }
-    ensures below { IfOk result (λ n. IsBelow limit n) }
+    ensures below { IfOk result (λ n. IsGivenBelow limit n) }
 {
     let Some(member) = value.get(name) else {
         return Ok(None);
@@ -49,7 +49,7 @@ pub fn number_or(value: &Value, name: &str, limit: u64, default: u64) -> Result<
 pub fn number_32_at(value: &Value, name: &str, limit: u64) -> Result<Option<u32>, Broken>
     requires { limit ≤ 2 ^ 32 }
     ensures gives { result ≡ number_at name.now limit (view value.now) }
-    ensures below { IfOk result (λ n. IsBelow limit n) }
+    ensures below { IfOk result (λ n. IsGivenBelow limit n) }
 {
     match number_at(value, name, limit)? {
         Some(number) => Ok(Some(number as u32)),
@@ -61,7 +61,7 @@ pub fn number_32_at(value: &Value, name: &str, limit: u64) -> Result<Option<u32>
 pub fn number_16_at(value: &Value, name: &str, limit: u64) -> Result<Option<u16>, Broken>
     requires { limit ≤ 2 ^ 16 }
     ensures gives { result ≡ number_at name.now limit (view value.now) }
-    ensures below { IfOk result (λ n. IsBelow limit n) }
+    ensures below { IfOk result (λ n. IsGivenBelow limit n) }
 {
     match number_at(value, name, limit)? {
         Some(number) => Ok(Some(number as u16)),

@@ -5,8 +5,8 @@ ghost use Rattle.fs_base.specs.Gives.{Gives};
 ghost use Rattle.serde_json.specs.View.{view};
 ghost use Rattle.scenario.specs.Broken.{broken_of, not_built};
 ghost use Rattle.scenario.specs.Numbers.{number_or};
-ghost use Rattle.scenario.specs.Ops.{both, changes_of, keys_of, kind_of, layout_of, making_of, op_of, op_with, place_at, second_place, short_text};
-ghost use Rattle.client_core.specs.Plans.{IsChanges, IsLayout, IsOp, IsPlace};
+ghost use Rattle.scenario.specs.Ops.{both, changes_of, keys_of, kind_of_op, layout_of, making_of, op_of, op_with, place_at, second_place, short_text};
+ghost use Rattle.client_core.specs.Plans.{IsChanges, IsGivenLayout, IsOp, IsPlace};
 
 use crate::broken::{Broken, ScenarioError, need, not_built};
 use crate::json::{has_only, text_at};
@@ -56,7 +56,7 @@ pub fn op_of(alloc: Global, value: &Value) -> Result<Op, ScenarioError>
 }
 
 fn kind_of(name: &str) -> Result<OpKind, Broken>
-    ensures { result ≡ ok_or (kind_of name.now) not_built }
+    ensures { result ≡ ok_or (kind_of_op name.now) not_built }
 {
     match name {
         "mkdir" => Ok(OpKind::Mkdir),
@@ -126,7 +126,7 @@ fn second_place(alloc: Global, value: &Value) -> Result<Place, ScenarioError>
 
 fn both(chunk: Option<u32>, stripe: Option<u16>) -> Result<Option<DefaultLayout>, Broken>
     ensures gives { result ≡ both chunk stripe }
-    ensures valid { IfOk result (λ layout. IfSome layout IsLayout) }
+    ensures valid { IfOk result (λ layout. IfSome layout IsGivenLayout) }
 {
     match (chunk, stripe) {
         (Some(chunk), Some(stripe)) => Ok(Some(DefaultLayout { chunk, stripe })),
@@ -137,7 +137,7 @@ fn both(chunk: Option<u32>, stripe: Option<u16>) -> Result<Option<DefaultLayout>
 
 fn layout_of(value: &Value) -> Result<Option<DefaultLayout>, Broken>
     ensures gives { result ≡ layout_of (view value.now) }
-    ensures valid { IfOk result (λ layout. IfSome layout IsLayout) }
+    ensures valid { IfOk result (λ layout. IfSome layout IsGivenLayout) }
 {
     let chunk = number_32_at(value, "chunk", 1 << 32)?;
     let stripe = number_16_at(value, "stripe", 1 << 16)?;
@@ -157,7 +157,7 @@ fn making_of(value: &Value, default: u16) -> Result<Making, Broken>
     requires { default < MODES }
     ensures gives { result ≡ making_of default (view value.now) }
     ensures mode { IfOk result (λ making. making.mode < MODES) }
-    ensures layout { IfOk result (λ making. IfSome making.layout IsLayout) }
+    ensures layout { IfOk result (λ making. IfSome making.layout IsGivenLayout) }
 {
     let mode = mode_or(value, default)?;
     let layout = layout_of(value)?;

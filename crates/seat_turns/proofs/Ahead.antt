@@ -10,8 +10,9 @@ use Rattle.txn_task.specs.declared.messages.Entry.{Entry}
 use Rattle.client_core.specs.Client.{ClientView, has_ended}
 use Rattle.client_core.specs.declared.plan.Script.{Script}
 use Rattle.seat_turns.specs.Kept.{IsSeat}
-use Rattle.seat_turns.specs.Left.{AreAhead, EndsOne, GoesOn, IsAhead, KeepsOthers, Stays, has_left}
-use Rattle.seat_turns.specs.Seats.{AllSeats, HaveEnded, scripts_of}
+use Rattle.seat_turns.specs.Left.{AreSeatsAhead, EndsOne, SeatsGoOn, IsSeatAhead, KeepsOthers, Stays}
+use Rattle.seat_turns.specs.Left.{has_left}
+use Rattle.seat_turns.specs.Seats.{AllSeats, HaveEnded, scripts_of_seats}
 use Rattle.seat_turns.specs.declared.seats.Seat.{Seat}
 use Rattle.client_core.proofs.Ending.{ended_is, has_ended_by}
 use Rattle.run_record.proofs.History.{at_there}
@@ -26,7 +27,7 @@ stays seats k = record {
   own = λ before after at_before at_after. ap (λ (s : Seat). s.client.op) (same_Some after before (sym at_after ∙ at_before));
 }
 
-module _ (old mid new : List Seat) (k : ℕ) (within : k < length mid) (so_far : Stays old mid k) (turn : GoesOn mid new k) where
+module _ (old mid new : List Seat) (k : ℕ) (within : k < length mid) (so_far : Stays old mid k) (turn : SeatsGoOn mid new k) where
   others : KeepsOthers old new k
   others j apart = turn.others j apart ∙ so_far.others j apart
 
@@ -59,9 +60,9 @@ module _ (old new : List Seat) (k : ℕ) (x y : Seat) (m n : ℕ) (at_x : slice_
 
 -- the clients before c have been asked for one more operation than the others
 abbrev pub AreAheadTo : ℕ → ℕ → List Seat → Type 0
-AreAheadTo rounds c seats = (k : ℕ) (seat : Seat) → slice_get seats k ≡ Some seat → IsAhead rounds seat × (k < c → IsAhead (rounds + 1) seat)
+AreAheadTo rounds c seats = (k : ℕ) (seat : Seat) → slice_get seats k ≡ Some seat → IsSeatAhead rounds seat × (k < c → IsSeatAhead (rounds + 1) seat)
 
-pub ahead_more : (rounds c : ℕ) (seats : List Seat) → length seats ≤ c → AreAheadTo rounds c seats → AreAhead (rounds + 1) seats
+pub ahead_more : (rounds c : ℕ) (seats : List Seat) → length seats ≤ c → AreAheadTo rounds c seats → AreSeatsAhead (rounds + 1) seats
 ahead_more rounds c seats all h k seat at = let l : k < length seats = slice_get_within seats k seat at in (h k seat at).1 (omega arith)
 
 all_ended : (c : ClientView) → has_ended c ≡ true → length c.script.ops ≤ c.op
@@ -71,38 +72,38 @@ all_ended c ended = (ended_is c ended).1
 pub ahead_idle : (rounds c : ℕ) (seats : List Seat) → ((seat : Seat) → slice_get seats c ≡ Some seat → has_ended seat.client ≡ true) → AreAheadTo rounds c seats → AreAheadTo rounds (c + 1) seats
 ahead_idle rounds c seats ended h k seat at = ((h k seat at).0, next)
   where
-    next : k < c + 1 → IsAhead (rounds + 1) seat
+    next : k < c + 1 → IsSeatAhead (rounds + 1) seat
     next l = elim (cases_eq k c) [
       | inl same ↦ inr (all_ended seat.client (ended seat (ap (slice_get seats) (sym same) ∙ at)))
       | inr apart ↦ (h k seat at).1 (omega arith)
     ]
 
-one_ahead : (rounds : ℕ) (before after : Seat) → after.client.script ≡ before.client.script → after.client.op ≡ before.client.op + 1 → IsAhead rounds before → IsAhead (rounds + 1) after
+one_ahead : (rounds : ℕ) (before after : Seat) → after.client.script ≡ before.client.script → after.client.op ≡ before.client.op + 1 → IsSeatAhead rounds before → IsSeatAhead (rounds + 1) after
 one_ahead rounds before after script more (inl some) = inl (omega arith)
 one_ahead rounds before after script more (inr all) =
     let same : length after.client.script.ops ≡ length before.client.script.ops = ap (λ (s : Script). length s.ops) script in
     inr (omega arith)
 
 -- an operation of the next client has ended
-pub ahead_went : (rounds c : ℕ) (old new : List Seat) → c < length old → scripts_of new ≡ scripts_of old → EndsOne old new c → AreAheadTo rounds c old → AreAheadTo rounds (c + 1) new
+pub ahead_went : (rounds c : ℕ) (old new : List Seat) → c < length old → scripts_of_seats new ≡ scripts_of_seats old → EndsOne old new c → AreAheadTo rounds c old → AreAheadTo rounds (c + 1) new
 ahead_went rounds c old new l scripts one h k seat at = elim (cases_eq k c) [ inl same ↦ here same | inr apart ↦ other apart ]
   where
-    here : k ≡ c → IsAhead rounds seat × (k < c + 1 → IsAhead (rounds + 1) seat)
+    here : k ≡ c → IsSeatAhead rounds seat × (k < c + 1 → IsSeatAhead (rounds + 1) seat)
     here same =
         let before : (b : Seat) × (slice_get old c ≡ Some b) = at_there old c l in
         let at_c : slice_get new c ≡ Some seat = ap (slice_get new) (sym same) ∙ at in
         let more : seat.client.op ≡ before.0.client.op + 1 = one.own before.0 seat before.1 at_c in
         let script : seat.client.script ≡ before.0.client.script = same_Some seat.client.script before.0.client.script (sym (script_at new c seat at_c) ∙ (ap (λ (ss : List Script). slice_get ss c) scripts ∙ script_at old c before.0 before.1)) in
-        let ahead : IsAhead (rounds + 1) seat = one_ahead rounds before.0 seat script more (h c before.0 before.1).0 in
+        let ahead : IsSeatAhead (rounds + 1) seat = one_ahead rounds before.0 seat script more (h c before.0 before.1).0 in
         (less rounds seat ahead, λ _. ahead)
       where
-        less : (rounds : ℕ) (seat : Seat) → IsAhead (rounds + 1) seat → IsAhead rounds seat
+        less : (rounds : ℕ) (seat : Seat) → IsSeatAhead (rounds + 1) seat → IsSeatAhead rounds seat
         less rounds seat (inl some) = inl (omega arith)
         less rounds seat (inr all) = inr all
 
-    other : k ≢ c → IsAhead rounds seat × (k < c + 1 → IsAhead (rounds + 1) seat)
+    other : k ≢ c → IsSeatAhead rounds seat × (k < c + 1 → IsSeatAhead (rounds + 1) seat)
     other apart =
-        let was : IsAhead rounds seat × (k < c → IsAhead (rounds + 1) seat) = h k seat (sym (one.others k apart) ∙ at) in
+        let was : IsSeatAhead rounds seat × (k < c → IsSeatAhead (rounds + 1) seat) = h k seat (sym (one.others k apart) ∙ at) in
         (was.0, λ below. was.1 (omega arith))
 
 -- ---- no more is left
@@ -124,10 +125,10 @@ have_ended seats none k seat at = elim (cases_Bool (has_ended seat.client)) [
 ]
 
 -- a script has at most 4,000 operations, so that as many rounds are enough
-pub none_left : (C : Settings) (attempts : ℕ) (journal : List Entry) (seats : List Seat) → AllSeats C attempts journal seats → AreAhead 4000 seats → has_left seats ≡ false
+pub none_left : (C : Settings) (attempts : ℕ) (journal : List Entry) (seats : List Seat) → AllSeats C attempts journal seats → AreSeatsAhead 4000 seats → has_left seats ≡ false
 none_left C attempts journal seats are ahead = any_none (λ s. not (has_ended s.client)) seats (λ k seat at. ap not (ended seat k (are k seat at) (ahead k seat at)))
   where
-    ended : (seat : Seat) (k : ℕ) → IsSeat C attempts journal k seat → IsAhead 4000 seat → has_ended seat.client ≡ true
+    ended : (seat : Seat) (k : ℕ) → IsSeat C attempts journal k seat → IsSeatAhead 4000 seat → has_ended seat.client ≡ true
     ended seat k is far =
         let all : length seat.client.script.ops ≤ seat.client.op = omega (arith, is.script.short) in
         let rest : seat.client.request ≡ None = all_done C attempts journal k seat is all in

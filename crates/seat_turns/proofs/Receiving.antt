@@ -12,14 +12,14 @@ use Rattle.txn_task.specs.declared.messages.Entry.{Entry}
 use Rattle.txn_task.specs.declared.outcome.Outcome.{Outcome}
 use Rattle.txn_task.specs.declared.outcome.Receipt.{Receipt}
 use Rattle.client_core.specs.Client.{ClientView, end_call, new_client}
-use Rattle.client_core.specs.Courses.{AreNumbered, Course, IsFrom, after_course, after_courses, receipts_along, receipts_in}
+use Rattle.client_core.specs.Courses.{AreNumbered, Course, IsFrom, after_course, after_courses, receipts_along, receipts_of_ask}
 use Rattle.client_core.specs.Ops.{receipt_of}
 use Rattle.client_core.specs.Plans.{IsScript}
 use Rattle.client_core.specs.declared.messages.ClientAsk.{ClientAsk}
 use Rattle.client_core.proofs.Courses.{after_push, along_push, course_ends, numbered, rests_at, same_op}
 use Rattle.run_record.specs.Legal.{EntryAt}
 use Rattle.run_record.specs.Outcomes.{seen_by, NamesEntry}
-use Rattle.run_record.specs.Receipts.{fronts_of, front_of, outcome_of, AreLater, AreReceipts, IsMadeBy, IsOf, IsReceipt, IsServed}
+use Rattle.run_record.specs.Receipts.{fronts_of, front_of, outcome_of, AreLater, AreReceipts, IsMadeBy, IsOf, IsReceipt, IsServedReceipt}
 use Rattle.run_record.specs.Receipts.{MayMeetAll, Rises}
 use Rattle.run_record.specs.ReplyText.{text_of}
 use Rattle.run_record.specs.declared.run.Listed.{Listed}
@@ -27,7 +27,7 @@ use Rattle.run_record.proofs.Naming.{of_commit}
 use Rattle.run_record.proofs.OneMore.{AreReceipts-push}
 use Rattle.run_record.proofs.Served.{one_request, served}
 use Rattle.request_run.specs.Served.{CameTo, EachOf}
-use Rattle.seat_turns.specs.Kept.{AreNamed, HasReceipt, IsPast, version_after}
+use Rattle.seat_turns.specs.Kept.{AreNamed, HasReceipt, IsPast, newest_seen}
 
 -- ---- one receipt more
 
@@ -39,11 +39,11 @@ HasReceipt_new : (rs : List Listed) (r : Listed) (place : ℕ) → (r.receipt.co
 HasReceipt_new [] r place is = inl is
 HasReceipt_new (x ∷ rs) r place is = inr (HasReceipt_new rs r place is)
 
-Rises-push : (floor : ℕ) (rs : List Listed) (r : Listed) → Rises floor rs → version_after floor rs ≤ front_of r.fronts → front_of r.fronts ≤ r.receipt.version → Rises floor (rs ++ r ∷ [])
+Rises-push : (floor : ℕ) (rs : List Listed) (r : Listed) → Rises floor rs → newest_seen floor rs ≤ front_of r.fronts → front_of r.fronts ≤ r.receipt.version → Rises floor (rs ++ r ∷ [])
 Rises-push floor [] r h from up = (from, up, tt)
 Rises-push floor (x ∷ rs) r h from up = (h.0, h.1, Rises-push (seen_by (outcome_of x.receipt)) rs r h.2 from up)
 
-version_after-push : (floor : ℕ) (rs : List Listed) (r : Listed) → version_after floor (rs ++ r ∷ []) ≡ seen_by (outcome_of r.receipt)
+version_after-push : (floor : ℕ) (rs : List Listed) (r : Listed) → newest_seen floor (rs ++ r ∷ []) ≡ seen_by (outcome_of r.receipt)
 version_after-push floor [] r = refl
 version_after-push floor (x ∷ rs) r = version_after-push (seen_by (outcome_of x.receipt)) rs r
 
@@ -93,7 +93,7 @@ module _ (C : Settings) (attempts : ℕ) (journal : List Entry) (k : ℕ) (clien
   }
 
   -- its receipt joins those before it
-  pub past_more : IsPast C attempts journal k client receipts → client.gone ≡ [] → version_after 0 receipts ≤ front
+  pub past_more : IsPast C attempts journal k client receipts → client.gone ≡ [] → newest_seen 0 receipts ≤ front
       → IsPast C attempts journal k after (receipts ++ listed ∷ [])
   past_more past none from =
       let new : ClientView = new_client C client.script in
@@ -106,7 +106,7 @@ module _ (C : Settings) (attempts : ℕ) (journal : List Entry) (k : ℕ) (clien
         courses = past.courses ++ one ∷ [];
         told = map_push (λ (l : Listed). l.receipt) receipts listed
             ∙ (ap (λ (rs : List Receipt). rs ++ receipt ∷ []) past.told
-            ∙ (ap (λ (p : ClientView × ClientAsk). receipts_along new past.courses ++ receipts_in p.1) (sym ends)
+            ∙ (ap (λ (p : ClientView × ClientAsk). receipts_along new past.courses ++ receipts_of_ask p.1) (sym ends)
             ∙ sym (along_push new past.courses one)));
         from = sym (after_push new past.courses one ∙ ap (λ (p : ClientView × ClientAsk). p.0) ends);
         none_gone = All-push (λ (l : Listed). l.receipt.gone ≡ []) receipts listed past.none_gone none;
@@ -135,7 +135,7 @@ module _ (C : Settings) (attempts : ℕ) (es : List Entry) (place : ℕ) (e : En
   -- a receipt that names the entry has its number, and is its client's
   pub names_is : (client : ClientId) (listed : Listed) → IsReceipt C attempts es client listed → (listed.receipt.committed ≡ true) × (listed.receipt.version ≡ place + 1) → (e.request.client ≡ client) × (listed.receipt.number ≡ Some e.request.number)
   names_is client listed receipt (committed, version) =
-      let h : IsServed C es client listed = served receipt in
+      let h : IsServedReceipt C es client listed = served receipt in
       let names : NamesEntry es h.request (front_of listed.fronts) (outcome_of listed.receipt) = of_commit C attempts es client listed h committed in
       let place_is : names.place ≡ place = (let v : listed.receipt.version ≡ names.place + 1 = names.version in omega arith) in
       let one : names.entry ≡ e = same_Some names.entry e (sym names.at ∙ (ap (slice_get es) place_is ∙ at)) in (

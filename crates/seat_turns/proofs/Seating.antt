@@ -15,13 +15,13 @@ use Rattle.client_core.specs.Plans.{AreDistinct, IsScript}
 use Rattle.client_core.specs.declared.plan.Script.{Script}
 use Rattle.run_record.specs.Legal.{EntryAt}
 use Rattle.run_record.specs.declared.run.Listed.{Listed}
-use Rattle.request_run.specs.Served.{AreCovered, AreOthers}
+use Rattle.request_run.specs.Served.{AreCovered, AreOtherClients}
 use Rattle.request_run.specs.Entries.{IsGrowth, entries_of}
 use Rattle.run_record.proofs.Growing.{at_either}
 use Rattle.request_run.proofs.Rows.{length_entries}
 use Rattle.seat_turns.specs.Kept.{IsSeat}
-use Rattle.seat_turns.specs.Left.{GoesOn, IsOneMore, KeepsOthers}
-use Rattle.seat_turns.specs.Seats.{AllSeats, AreSeated, scripts_of, seats_of}
+use Rattle.seat_turns.specs.Left.{SeatsGoOn, IsOneMore, KeepsOthers}
+use Rattle.seat_turns.specs.Seats.{AllSeats, AreSeated, scripts_of_seats, seats_of}
 use Rattle.seat_turns.specs.declared.seats.Seat.{Seat}
 use Rattle.seat_turns.proofs.Working.{IsLonger, longer, seat_longer}
 
@@ -38,11 +38,11 @@ set_other (z ∷ seats) zero (suc j) y n = refl
 set_other (z ∷ seats) (suc k) zero y n = refl
 set_other (z ∷ seats) (suc k) (suc j) y n = set_other seats k j y (λ e. n (ap (λ m. suc m) e))
 
-pub script_at : (seats : List Seat) (k : ℕ) (x : Seat) → slice_get seats k ≡ Some x → slice_get (scripts_of seats) k ≡ Some x.client.script
+pub script_at : (seats : List Seat) (k : ℕ) (x : Seat) → slice_get seats k ≡ Some x → slice_get (scripts_of_seats seats) k ≡ Some x.client.script
 script_at seats k x at = slice_get-map (λ (w : Seat). w.client.script) seats k ∙ ap (option_map (λ (w : Seat). w.client.script)) at
 
 -- seats of one id are one
-pub one_seat : (seats : List Seat) (j k : ℕ) (x z : Seat) → AreDistinct (scripts_of seats) → slice_get seats j ≡ Some x → slice_get seats k ≡ Some z → x.client.script.id ≡ z.client.script.id → j ≡ k
+pub one_seat : (seats : List Seat) (j k : ℕ) (x z : Seat) → AreDistinct (scripts_of_seats seats) → slice_get seats j ≡ Some x → slice_get seats k ≡ Some z → x.client.script.id ≡ z.client.script.id → j ≡ k
 one_seat seats j k x z distinct at_x at_z same = distinct j k x.client.script z.client.script (script_at seats j x at_x) (script_at seats k z at_z) same
 
 -- ---- a turn
@@ -66,20 +66,21 @@ module _ (seats : List Seat) (i k : ℕ) (x y : Seat) (same : i ≡ k) (within :
   apart : KeepsOthers seats (set seats i y) k
   apart j other = subst (λ n. slice_get (set seats n y) j ≡ slice_get seats j) (sym same) (set_other seats k j y other)
 
-  pub scripts_there : y.client.script ≡ x.client.script → scripts_of (set seats i y) ≡ scripts_of seats
+  pub scripts_there : y.client.script ≡ x.client.script
+      → scripts_of_seats (set seats i y) ≡ scripts_of_seats seats
   scripts_there script = map-set_same (λ (w : Seat). w.client.script) seats i y x (script ∙ ap (λ (w : Seat). w.client.script) is)
 
   pub event_there : (P : Seat → Seat → Type 0) → P x y → (before after : Seat) → slice_get seats k ≡ Some before → slice_get (set seats i y) k ≡ Some after → P before after
   event_there P h before after at_before at_after =
       subst (λ (b : Seat). P b after) (same_Some x before (sym at_x ∙ at_before)) (subst (λ (a : Seat). P x a) (same_Some y after (sym here ∙ at_after)) h)
 
-  pub goes_there : IsOneMore x.client.op y.client.op → GoesOn seats (set seats i y) k
+  pub goes_there : IsOneMore x.client.op y.client.op → SeatsGoOn seats (set seats i y) k
   goes_there more = record { others = apart; own = event_there (λ before after. IsOneMore before.client.op after.client.op) more }
 
-  module _ (C : Settings) (attempts : ℕ) (es more : List Entry) (script : y.client.script ≡ x.client.script) (distinct : AreDistinct (scripts_of seats)) (short : length (es ++ more) ≤ 200000)
+  module _ (C : Settings) (attempts : ℕ) (es more : List Entry) (script : y.client.script ≡ x.client.script) (distinct : AreDistinct (scripts_of_seats seats)) (short : length (es ++ more) ≤ 200000)
       (mine : (place : ℕ) (e : Entry) → EntryAt more place e → e.request.client ≡ x.client.script.id) (h : AreSeated C attempts es seats) (own : IsSeat C attempts (es ++ more) k y) where
     -- the new entries are the client's, so not another's
-    others : (j : ℕ) (z : Seat) → j ≢ k → slice_get seats j ≡ Some z → AreOthers more z.client.script.id
+    others : (j : ℕ) (z : Seat) → j ≢ k → slice_get seats j ≡ Some z → AreOtherClients more z.client.script.id
     others j z other at place e at_e its = other (one_seat seats j k z x distinct at at_x (sym its ∙ mine place e at_e))
 
     all_set : AllSeats C attempts (es ++ more) (set seats i y)
@@ -113,7 +114,7 @@ module _ (seats : List Seat) (i k : ℕ) (x y : Seat) (same : i ≡ k) (within :
         }
 
   -- a turn of one client keeps all
-  pub seated_there : (C : Settings) (attempts : ℕ) (store after : Store MetaEntry) → y.client.script ≡ x.client.script → AreDistinct (scripts_of seats) → length after.journal ≤ 200000 → AreSeated C attempts (entries_of store.journal) seats
+  pub seated_there : (C : Settings) (attempts : ℕ) (store after : Store MetaEntry) → y.client.script ≡ x.client.script → AreDistinct (scripts_of_seats seats) → length after.journal ≤ 200000 → AreSeated C attempts (entries_of store.journal) seats
       → IsGrowth store after x.client.script.id → AreCovered C (entries_of after.journal) → IsSeat C attempts (entries_of after.journal) k y → AreSeated C attempts (entries_of after.journal) (set seats i y)
   seated_there C attempts store after script distinct few h growth covered own =
       let grown : IsLonger (entries_of store.journal) (entries_of after.journal) x.client.script.id = longer store after x.client.script.id growth in
@@ -124,7 +125,7 @@ module _ (seats : List Seat) (i k : ℕ) (x y : Seat) (same : i ≡ k) (within :
 
 -- ---- clients that have done nothing yet
 
-pub scripts_new : (C : Settings) (scripts : List Script) → scripts_of (seats_of C scripts) ≡ scripts
+pub scripts_new : (C : Settings) (scripts : List Script) → scripts_of_seats (seats_of C scripts) ≡ scripts
 scripts_new C [] = refl
 scripts_new C (script ∷ scripts) = ap (λ (ss : List Script). script ∷ ss) (scripts_new C scripts)
 

@@ -27,13 +27,14 @@ use Rattle.run_record.specs.Receipts.{fronts_of}
 use Rattle.run_record.specs.ReplyText.{text_of}
 use Rattle.run_record.specs.declared.run.Listed.{Listed}
 use Rattle.request_run.specs.Entries.{IsGrowth, entries_of}
-use Rattle.request_run.specs.Served.{AreEarlier, AreOthers, CameTo, EachOf, IsPending, IsReady, IsServed}
+use Rattle.request_run.specs.Served.{AreEarlier, AreOtherClients, CameTo, EachOf, IsAskPending, IsTaskReady}
+use Rattle.request_run.specs.Served.{IsTaskServed}
 use Rattle.run_record.proofs.Growing.{AreReceipts-longer}
 use Rattle.request_run.proofs.Growing.{EachOf-longer, IsServed-longer}
 use Rattle.request_run.proofs.Rows.{entries-push, length_entries}
 use Rattle.request_run.proofs.Continuing.{for_request, of_task}
 use Rattle.seat_turns.specs.Events.{Comes, HasLearned}
-use Rattle.seat_turns.specs.Kept.{AreNamed, HasReceipt, IsPast, IsSeat, IsWork, IsWorking, version_after}
+use Rattle.seat_turns.specs.Kept.{AreNamed, HasReceipt, IsPast, IsSeat, IsWork, IsWorking, newest_seen}
 use Rattle.seat_turns.specs.Left.{IsOneMore}
 use Rattle.seat_turns.specs.Ready.{is_done}
 use Rattle.seat_turns.specs.declared.seats.Seat.{Seat}
@@ -103,7 +104,7 @@ longer store after client (inr grew) =
 module _ (C : Settings) (attempts : ℕ) (es more : List Entry) (short : length (es ++ more) ≤ 200000) where
   past_longer : (k : ℕ) (client : ClientView) (receipts : List Listed) → IsPast C attempts es k client receipts → IsPast C attempts (es ++ more) k client receipts
   past_longer k client receipts h =
-      let within : version_after 0 receipts ≤ length (es ++ more) = omega (arith, h.within, length-append es more) in
+      let within : newest_seen 0 receipts ≤ length (es ++ more) = omega (arith, h.within, length-append es more) in
       record {
         courses = h.courses;
         told = h.told;
@@ -122,7 +123,8 @@ module _ (C : Settings) (attempts : ℕ) (es more : List Entry) (short : length 
   -- ---- a seat, where the new entries are other clients'
 
   working_longer : (client : ClientView) (receipts : List Listed) (under_way : Option Request) (work : Option Work)
-      → IfSome under_way (λ request. request.client ≡ client.script.id) → AreOthers more client.script.id
+      → IfSome under_way (λ request. request.client ≡ client.script.id)
+      → AreOtherClients more client.script.id
       → IsWorking C attempts es client receipts under_way work → IsWorking C attempts (es ++ more) client receipts under_way work
   working_longer client receipts None None own others h =
       EachOf-longer C es more client.script.id (λ place e. HasReceipt receipts place) (λ behind e at mine. absurd (others behind e at mine)) h
@@ -138,7 +140,7 @@ module _ (C : Settings) (attempts : ℕ) (es more : List Entry) (short : length 
   working_longer client receipts None (Some work) own others h = absurd h
   working_longer client receipts (Some request) None own others h = absurd h
 
-  pub seat_longer : (k : ℕ) (seat : Seat) → AreOthers more seat.client.script.id → IsSeat C attempts es k seat → IsSeat C attempts (es ++ more) k seat
+  pub seat_longer : (k : ℕ) (seat : Seat) → AreOtherClients more seat.client.script.id → IsSeat C attempts es k seat → IsSeat C attempts (es ++ more) k seat
   seat_longer k seat others h =
       record {
         config = h.config;
@@ -244,10 +246,10 @@ module _ (C : Settings) (attempts : ℕ) (journal : List Entry) (k : ℕ) (seat 
         within = h.past.within;
       }
 
-  pub seat_sent : (after : Seat) (work : Work) → AreNamed journal seat.client.script.id seat.receipts → work.ask ≡ asks.Begin → IsReady C attempts journal request work.front work.task work.ask → work.server ≡ server → work.front ≡ length journal
+  pub seat_sent : (after : Seat) (work : Work) → AreNamed journal seat.client.script.id seat.receipts → work.ask ≡ asks.Begin → IsTaskReady C attempts journal request work.front work.task work.ask → work.server ≡ server → work.front ≡ length journal
       → after ≡ record seat { client = (send seat.client (slice_get seat.client.script.ops seat.client.op)).0; work = Some work } → IsSeat C attempts journal k after
   seat_sent after work named ask ready served front now =
-      let going : IsServed C attempts journal request work.front work.task × IsPending C work.task asks.Begin = subst (IsReady C attempts journal request work.front work.task) ask ready in
+      let going : IsTaskServed C attempts journal request work.front work.task × IsAskPending C work.task asks.Begin = subst (IsTaskReady C attempts journal request work.front work.task) ask ready in
       subst (IsSeat C attempts journal k) (sym (now ∙ ap (λ o. record seat { client = (send seat.client o).0; work = Some work }) sent.there))
       (record {
         config = h.config;
@@ -257,23 +259,24 @@ module _ (C : Settings) (attempts : ℕ) (journal : List Entry) (k : ℕ) (seat 
         working = record {
           from = omega (arith, h.past.within);
           named = λ place e at mine l. named place e at mine;
-          served = subst (λ q. IsServed C attempts journal q work.front work.task) sent.request_is going.0;
-          pending = subst (IsPending C work.task) (sym ask) going.1;
+          served = subst
+              (λ q. IsTaskServed C attempts journal q work.front work.task) sent.request_is going.0;
+          pending = subst (IsAskPending C work.task) (sym ask) going.1;
           server = served ∙ sent.server_is;
         };
       })
 
 -- ---- the request goes on, or has ended
 
-still : (C : Settings) (attempts : ℕ) (journal : List Entry) (request : Request) (front : ℕ) (task : TaskView) (ask : Ask) → is_done ask ≡ false → IsReady C attempts journal request front task ask → IsServed C attempts journal request front task × IsPending C task ask
+still : (C : Settings) (attempts : ℕ) (journal : List Entry) (request : Request) (front : ℕ) (task : TaskView) (ask : Ask) → is_done ask ≡ false → IsTaskReady C attempts journal request front task ask → IsTaskServed C attempts journal request front task × IsAskPending C task ask
 still C attempts journal request front task asks.Done e h = absurd (cc)
 still C attempts journal request front task ask e h = h
 
-ended : (C : Settings) (attempts : ℕ) (journal : List Entry) (request : Request) (front : ℕ) (task : TaskView) (ask : Ask) → is_done ask ≡ true → IsReady C attempts journal request front task ask → (outcome : Outcome) × (task.outcome ≡ Some outcome) × CameTo C attempts journal request front outcome
+ended : (C : Settings) (attempts : ℕ) (journal : List Entry) (request : Request) (front : ℕ) (task : TaskView) (ask : Ask) → is_done ask ≡ true → IsTaskReady C attempts journal request front task ask → (outcome : Outcome) × (task.outcome ≡ Some outcome) × CameTo C attempts journal request front outcome
 ended C attempts journal request front task asks.Done e h = h
 ended C attempts journal request front task ask e h = absurd (cc)
 
-pub has_outcome : (C : Settings) (attempts : ℕ) (journal : List Entry) (request : Request) (front : ℕ) (task : TaskView) (ask : Ask) → IsReady C attempts journal request front task ask → is_done ask ≡ true → (outcome : Outcome) × (task.outcome ≡ Some outcome)
+pub has_outcome : (C : Settings) (attempts : ℕ) (journal : List Entry) (request : Request) (front : ℕ) (task : TaskView) (ask : Ask) → IsTaskReady C attempts journal request front task ask → is_done ask ≡ true → (outcome : Outcome) × (task.outcome ≡ Some outcome)
 has_outcome C attempts journal request front task ask h e = let came = ended C attempts journal request front task ask e h in (came.0, came.1)
 
 -- the receipt that the client keeps
@@ -285,7 +288,7 @@ module _ (C : Settings) (attempts : ℕ) (es more : List Entry) (k : ℕ) (befor
   of = work_of C attempts es k before h work is
 
   abbrev pub Ready : Type 0
-  Ready = IsReady C attempts (es ++ more) of.0.0 work.front task next
+  Ready = IsTaskReady C attempts (es ++ more) of.0.0 work.front task next
 
   past : IsPast C attempts (es ++ more) k before.client before.receipts
   past = past_longer C attempts es more short k before.client before.receipts h.past
@@ -356,22 +359,22 @@ module _ (C D : Settings) (attempts k : ℕ) (store : Store MetaEntry) (before :
   abbrev works : IsWork C attempts (entries_of store.journal) before.client before.receipts sent_is.0 work
   works = (work_of C attempts (entries_of store.journal) k before h work is).1
 
-  pub to_serve : IsServed D work.task.attempts (entries_of store.journal) work.task.request work.front work.task × IsPending D work.task work.ask
-  to_serve = subst (λ c. IsServed c work.task.attempts (entries_of store.journal) work.task.request work.front work.task × IsPending c work.task work.ask) (sym same) (of_task works.served, works.pending)
+  pub to_serve : IsTaskServed D work.task.attempts (entries_of store.journal) work.task.request work.front work.task × IsAskPending D work.task work.ask
+  to_serve = subst (λ c. IsTaskServed c work.task.attempts (entries_of store.journal) work.task.request work.front work.task × IsAskPending c work.task work.ask) (sym same) (of_task works.served, works.pending)
 
   pub client_is : work.task.request.client ≡ before.client.script.id
   client_is = ap (λ (q : Request). q.client) works.served.request_is ∙ sent_own C attempts (entries_of store.journal) k before h sent_is.0 sent_is.1
 
   pub seat_after : (after : Store MetaEntry) (seat : Seat) (next : Work) → length after.journal ≤ 200000 → IsGrowth store after work.task.request.client
-      → IsReady D work.task.attempts (entries_of after.journal) work.task.request work.front next.task next.ask → next ≡ record work { task = next.task; ask = next.ask } → Comes C k (record before { work = None }) seat next (is_done next.ask)
+      → IsTaskReady D work.task.attempts (entries_of after.journal) work.task.request work.front next.task next.ask → next ≡ record work { task = next.task; ask = next.ask } → Comes C k (record before { work = None }) seat next (is_done next.ask)
       → IsSeat C attempts (entries_of after.journal) k seat
   seat_after after seat next few growth ready next_is comes =
       let grown : IsLonger (entries_of store.journal) (entries_of after.journal) work.task.request.client = longer store after work.task.request.client growth in
       let short : length (entries_of store.journal ++ grown.more) ≤ 200000 = subst (λ n. n ≤ 200000) (sym (length_entries after.journal) ∙ ap (λ (js : List Entry). length js) grown.is) few in
-      let goes = subst (λ c. IsReady c work.task.attempts (entries_of after.journal) work.task.request work.front next.task next.ask) same ready in
+      let goes = subst (λ c. IsTaskReady c work.task.attempts (entries_of after.journal) work.task.request work.front next.task next.ask) same ready in
       subst (λ es. IsSeat C attempts es k seat) (sym grown.is)
       (seat_comes C attempts (entries_of store.journal) grown.more k before seat work next.task next.ask short h is (is_done next.ask) refl
-      (for_request works.served (entries_of store.journal ++ grown.more) next.task next.ask (subst (λ es. IsReady C work.task.attempts es work.task.request work.front next.task next.ask) grown.is goes))
+      (for_request works.served (entries_of store.journal ++ grown.more) next.task next.ask (subst (λ es. IsTaskReady C work.task.attempts es work.task.request work.front next.task next.ask) grown.is goes))
       (subst (λ w. Comes C k (record before { work = None }) seat w (is_done next.ask)) next_is comes))
 
 -- one operation more has ended, or none

@@ -10,16 +10,16 @@ use Rattle.client_core.specs.Plans.{IsScript}
 use Rattle.run_record.specs.Outcomes.{seen_by}
 use Rattle.run_record.specs.Receipts.{outcome_of, AreReceipts, Rises}
 use Rattle.run_record.specs.declared.run.Listed.{Listed}
-use Rattle.request_run.specs.Served.{EachOf, IsPending, IsServed}
+use Rattle.request_run.specs.Served.{EachOf, IsAskPending, IsTaskServed}
 use Rattle.seat_turns.specs.declared.seats.Seat.{Seat}
 use Rattle.seat_turns.specs.declared.seats.Work.{Work}
 
 -- ---- what is done
 
 -- the newest version that the last receipt shows
-abbrev pub version_after : ℕ → List Listed → ℕ
-version_after floor [] = floor
-version_after floor (listed ∷ rest) = version_after (seen_by (outcome_of listed.receipt)) rest
+abbrev pub newest_seen : ℕ → List Listed → ℕ
+newest_seen floor [] = floor
+newest_seen floor (listed ∷ rest) = newest_seen (seen_by (outcome_of listed.receipt)) rest
 
 -- a receipt for each operation that has ended: those that the client's steps have told, and it went on from
 -- there
@@ -33,7 +33,7 @@ pub record IsPast (C : Settings) (attempts : ℕ) (journal : List Entry) (k : �
   pub ordinals : All (λ listed. listed.client ≡ k) receipts
   pub each : AreReceipts C attempts journal client.script.id receipts
   pub rises : Rises 0 receipts
-  pub within : version_after 0 receipts ≤ length journal
+  pub within : newest_seen 0 receipts ≤ length journal
 
 -- some receipt names the entry of this place
 abbrev pub HasReceipt : List Listed → ℕ → Type 0
@@ -50,10 +50,10 @@ AreNamed journal client receipts = EachOf journal client (λ place entry. HasRec
 -- the request is being served; a receipt names each entry that the client had made before
 pub record IsWork (C : Settings) (attempts : ℕ) (journal : List Entry) (client : ClientView)
     (receipts : List Listed) (request : Request) (work : Work) : Type 0 where
-  pub from : version_after 0 receipts ≤ work.front
+  pub from : newest_seen 0 receipts ≤ work.front
   pub named : EachOf journal client.script.id (λ place entry. place < work.front → HasReceipt receipts place)
-  pub served : IsServed C attempts journal request work.front work.task
-  pub pending : IsPending C work.task work.ask
+  pub served : IsTaskServed C attempts journal request work.front work.task
+  pub pending : IsAskPending C work.task work.ask
   pub server : work.server ≡ client.server
 
 -- ---- the client

@@ -17,7 +17,7 @@ abbrev pub IsOneMore : ℕ → ℕ → Type 0
 IsOneMore before after = (after ≡ before) ⊎ (after ≡ before + 1)
 
 -- a turn of a client: at most one more of its operations has ended, and each other client is as it was
-pub record GoesOn (old new : List Seat) (client : ℕ) : Type 0 where
+pub record SeatsGoOn (old new : List Seat) (client : ℕ) : Type 0 where
   pub others : KeepsOthers old new client
   pub own : (before after : Seat) → slice_get old client ≡ Some before → slice_get new client ≡ Some after
       → IsOneMore before.client.op after.client.op
@@ -35,8 +35,8 @@ pub record EndsOne (old new : List Seat) (client : ℕ) : Type 0 where
       → after.client.op ≡ before.client.op + 1
 
 -- so many operations of the client have ended, or all
-abbrev pub IsAhead : ℕ → Seat → Type 0
-IsAhead rounds seat = (rounds ≤ seat.client.op) ⊎ (length seat.client.script.ops ≤ seat.client.op)
+abbrev pub IsSeatAhead : ℕ → Seat → Type 0
+IsSeatAhead rounds seat = (rounds ≤ seat.client.op) ⊎ (length seat.client.script.ops ≤ seat.client.op)
 
-abbrev pub AreAhead : ℕ → List Seat → Type 0
-AreAhead rounds seats = (k : ℕ) (seat : Seat) → slice_get seats k ≡ Some seat → IsAhead rounds seat
+abbrev pub AreSeatsAhead : ℕ → List Seat → Type 0
+AreSeatsAhead rounds seats = (k : ℕ) (seat : Seat) → slice_get seats k ≡ Some seat → IsSeatAhead rounds seat

@@ -10,8 +10,8 @@ use Rattle.request_run.specs.Served.{AreCovered}
 use Rattle.seat_turns.specs.Kept.{IsSeat}
 use Rattle.seat_turns.specs.declared.seats.Seat.{Seat}
 
-abbrev pub scripts_of : List Seat → List Script
-scripts_of seats = map (λ seat. seat.client.script) seats
+abbrev pub scripts_of_seats : List Seat → List Script
+scripts_of_seats seats = map (λ seat. seat.client.script) seats
 
 -- what holds of each client
 abbrev pub AllSeats : Settings → ℕ → List Entry → List Seat → Type 0

@@ -12,18 +12,18 @@ ghost use Rattle.txn_task.specs.declared.messages.Ask.TheVariants as asks;
 ghost use Rattle.txn_task.specs.declared.outcome.Outcome.{Outcome};
 ghost use Rattle.txn_task.specs.declared.outcome.Receipt.{Receipt};
 ghost use Rattle.client_core.specs.Plans.{AreDistinct};
-ghost use Rattle.request_run.specs.Served.{AreCovered, AreEarlier, IsPending, IsReady, IsServed};
+ghost use Rattle.request_run.specs.Served.{AreCovered, AreEarlier, IsAskPending, IsTaskReady, IsTaskServed};
 ghost use Rattle.seat_turns.specs.Kept.{IsSeat};
-ghost use Rattle.seat_turns.specs.Seats.{AreSeated, scripts_of};
+ghost use Rattle.seat_turns.specs.Seats.{AreSeated, scripts_of_seats};
 ghost use Rattle.client_core.specs.Client.{has_ended};
 ghost use Rattle.seat_turns.specs.Events.{Comes, HasExchanged, HasLearned, IsAtWork, IsEvent};
-ghost use Rattle.seat_turns.specs.Left.{GoesOn};
+ghost use Rattle.seat_turns.specs.Left.{SeatsGoOn};
 ghost use Rattle.seat_turns.specs.declared.seats.Work.{Work as WorkView};
 ghost use Rattle.seat_turns.specs.declared.seats.Seat.{Seat as SeatView};
 ghost use Rattle.request_run.specs.Entries.{IsGrowth, entries_of};
 ghost use Rattle.request_run.specs.Answered.{IsExchange};
 ghost use Rattle.seat_turns.specs.Ready.{is_done};
-ghost use Rattle.request_run.specs.Sound.{IsOpen};
+ghost use Rattle.request_run.specs.Sound.{IsStoreOpening};
 
 use crate::seats::{Seat, Work};
 use client_core::{ClientAnswer, ClientAsk, ClientState};
@@ -93,7 +93,7 @@ fn new_work(
     ensures server { IfOk result (λ work. work.server ≡ server) }
     ensures front { IfOk result (λ work. work.front ≡ length (entries_of store.now.journal)) }
     ensures served { IfOk result
-        (λ work. IsReady config attempts (entries_of store.now.journal) request work.front work.task work.ask) }
+        (λ work. IsTaskReady config attempts (entries_of store.now.journal) request work.front work.task work.ask) }
 {
     let Serving { task, ask, front } = begin(alloc, store, config, attempts, request)?;
     Ok(Work {
@@ -250,12 +250,13 @@ fn settle(alloc: Global, config: Config, k: u16, seat: &mut Seat, work: Work) ->
 
 /// One ask of a request.
 fn advance(alloc: Global, store: &mut KvState<MetaEntry>, work: Work) -> Result<Work, Memory>
-    requires opened { IsOpen store.old }
-    requires served { IsServed store.old.config work.task.attempts (entries_of store.old.journal) work.task.request
+    requires opened { IsStoreOpening store.old }
+    requires served { IsTaskServed store.old.config work.task.attempts (entries_of store.old.journal) work.task.request
         work.front work.task }
-    requires pending { IsPending store.old.config work.task work.ask }
+    requires pending { IsAskPending store.old.config work.task work.ask }
     ensures served { IfOk result
-        (λ new. IsReady store.old.config work.task.attempts (entries_of store.new.journal) work.task.request
+        (λ new. IsTaskReady store.old.config work.task.attempts
+        (entries_of store.new.journal) work.task.request
         work.front new.task new.ask) }
     ensures exchanged { IfOk result
         (λ new. IsExchange store.old.config (entries_of store.old.journal) (entries_of store.new.journal)
@@ -291,7 +292,7 @@ fn go_on(
     seat: &mut Seat,
 ) -> Result<(), Memory>
     requires config { store.old.config ≡ config }
-    requires opened { IsOpen store.old }
+    requires opened { IsStoreOpening store.old }
     requires seat { IsSeat config attempts (entries_of store.old.journal) k seat.old }
     requires covered { AreCovered config (entries_of store.old.journal) }
     requires there { (work : WorkView) × (seat.old.work ≡ Some work) }
@@ -321,7 +322,7 @@ fn turn(
     seat: &mut Seat,
 ) -> Result<(), Memory>
     requires config { store.old.config ≡ config }
-    requires opened { IsOpen store.old }
+    requires opened { IsStoreOpening store.old }
     requires from { 1 ≤ attempts }
     requires to { attempts ≤ ATTEMPTS }
     requires left { has_ended seat.old.client ≡ false }
@@ -353,20 +354,20 @@ pub fn event(
     k: u16,
 ) -> Result<(), Memory>
     requires config { store.old.config ≡ config }
-    requires begun { IsOpen store.old }
+    requires begun { IsStoreOpening store.old }
     requires from { 1 ≤ attempts }
     requires to { attempts ≤ ATTEMPTS }
-    requires distinct { AreDistinct (scripts_of seats.old.items) }
+    requires distinct { AreDistinct (scripts_of_seats seats.old.items) }
     requires within { k < length seats.old.items }
     requires left { (seat : SeatView) → slice_get seats.old.items k ≡ Some seat → has_ended seat.client ≡ false }
     requires seated { AreSeated config attempts (entries_of store.old.journal) seats.old.items }
     ensures seated { OnOk result (AreSeated config attempts (entries_of store.new.journal) seats.new.items) }
-    ensures scripts { scripts_of seats.new.items ≡ scripts_of seats.old.items }
+    ensures scripts { scripts_of_seats seats.new.items ≡ scripts_of_seats seats.old.items }
     ensures config { store.new.config ≡ store.old.config }
-    ensures begun { IsOpen store.new }
+    ensures begun { IsStoreOpening store.new }
     ensures step { (seat : SeatView) → slice_get seats.old.items k ≡ Some seat
         → IsGrowth store.old store.new seat.client.script.id }
-    ensures goes { OnOk result (GoesOn seats.old.items seats.new.items k) }
+    ensures goes { OnOk result (SeatsGoOn seats.old.items seats.new.items k) }
     ensures event { (before after : SeatView) → slice_get seats.old.items k ≡ Some before
         → slice_get seats.new.items k ≡ Some after
         → OnOk result (IsEvent config attempts k (entries_of store.old.journal) (entries_of store.new.journal) before after) }

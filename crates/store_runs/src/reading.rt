@@ -1,7 +1,7 @@
 //! What a commit has read before it, at its version.
 
 ghost use Rattle.std.specs.Prelude.{◌≡◌, ◌≤◌, length, IfOk};
-ghost use Rattle.conflict_sets.specs.Reads.{Agrees};
+ghost use Rattle.conflict_sets.specs.Reads.{RowsAgree};
 ghost use Rattle.kv_store.specs.Journal.{rows_at};
 
 use crate::law::{Touch, no_reads};
@@ -18,7 +18,7 @@ fn key_read(
 ) -> Result<ReadSet, Memory>
     requires { version ≤ length store.now.journal }
     ensures { IfOk result
-        (λ reads. Agrees
+        (λ reads. RowsAgree
         (rows_at (λ (entry : Touch). entry.writes) store.now.opening store.now.journal version) reads) }
 {
     let got = store.get_at(version, key)?;
@@ -41,7 +41,7 @@ fn range_read(
 ) -> Result<ReadSet, Memory>
     requires { version ≤ length store.now.journal }
     ensures { IfOk result
-        (λ reads. Agrees
+        (λ reads. RowsAgree
         (rows_at (λ (entry : Touch). entry.writes) store.now.opening store.now.journal version) reads) }
 {
     let rows = store.range_at(version, lo, hi, limit)?;
@@ -73,7 +73,7 @@ pub fn reads_of(
 ) -> Result<ReadSet, Memory>
     requires { version ≤ length store.now.journal }
     ensures { IfOk result
-        (λ reads. Agrees
+        (λ reads. RowsAgree
         (rows_at (λ (entry : Touch). entry.writes) store.now.opening store.now.journal version) reads) }
 {
     match range_of(words) {

@@ -3,7 +3,7 @@
 ghost use Rattle.std.specs.Prelude.{IfOk};
 ghost use Rattle.fs_base.specs.declared.reply.Reply.{Reply};
 ghost use Rattle.txn_task.specs.declared.messages.Ask.TheVariants as asks;
-ghost use Rattle.meta_task.specs.Task.{Fits};
+ghost use Rattle.meta_task.specs.Task.{FitsTask};
 ghost use Rattle.meta_task.specs.declared.waiting.Waiting.TheVariants as waits;
 
 use anyhow::{Result, bail};
@@ -16,7 +16,7 @@ use txn_task::Answer;
 
 /// Each key was last written at version 3.
 pub fn got(alloc: Global, rows: &Rows, key: &Key) -> Result<Answer, Memory>
-    ensures { IfOk result (λ answer. Fits (waits.Reading (asks.Get key.now)) answer) }
+    ensures { IfOk result (λ answer. FitsTask (waits.Reading (asks.Get key.now)) answer) }
 {
     let bytes = Text::from_vec(key.write(alloc)?);
     let value = match rows.get(&bytes) {
@@ -48,7 +48,7 @@ pub fn rows_in(
 
 /// What a commit is answered, as the words say.
 pub fn committed(alloc: Global, words: &str) -> Result<Answer>
-    ensures { IfOk result (λ answer. (reply : Reply) → Fits (waits.Committing reply) answer) }
+    ensures { IfOk result (λ answer. (reply : Reply) → FitsTask (waits.Committing reply) answer) }
 {
     let words = split(alloc, words)?;
     match words.as_slice() {

@@ -5,7 +5,7 @@ ghost use Rattle.fs_base.specs.declared.reply.Reply.{Reply};
 ghost use Rattle.txn_task.specs.declared.messages.Ask.TheVariants as asks;
 ghost use Rattle.meta_task.specs.Task.{MayTake};
 ghost use Rattle.meta_task.specs.declared.waiting.Waiting.TheVariants as waits;
-ghost use Rattle.task_runs.specs.Awaiting.{Awaits};
+ghost use Rattle.task_runs.specs.Awaiting.{TaskAwaits};
 
 use crate::answers::{committed, got, rows_in};
 use crate::requests::task_of;
@@ -21,7 +21,7 @@ use txn_task::{Answer, Ask};
 #[tactic(auto, using(crate::proofs::AwaitLaws::awaits))]
 fn next(task: &mut MetaTask, answer: Answer) -> Result<Ask, Memory>
     requires { MayTake task.old.waiting answer }
-    ensures { IfOk result (λ ask. Awaits task.new.waiting ask) }
+    ensures { IfOk result (λ ask. TaskAwaits task.new.waiting ask) }
 {
     let ask = task.next(answer)?;
     Ok(ask)
@@ -29,14 +29,14 @@ fn next(task: &mut MetaTask, answer: Answer) -> Result<Ask, Memory>
 
 fn begin(task: &mut MetaTask) -> Result<Ask, Memory>
     requires { task.old.waiting ≡ waits.Beginning }
-    ensures { IfOk result (λ ask. Awaits task.new.waiting ask) }
+    ensures { IfOk result (λ ask. TaskAwaits task.new.waiting ask) }
 {
     next(task, Answer::Begun(5))
 }
 
 fn look(alloc: Global, rows: &Rows, task: &mut MetaTask, key: &Key) -> Result<Ask, Memory>
     requires { task.old.waiting ≡ waits.Reading (asks.Get key.now) }
-    ensures { IfOk result (λ ask. Awaits task.new.waiting ask) }
+    ensures { IfOk result (λ ask. TaskAwaits task.new.waiting ask) }
 {
     let answer = got(alloc, rows, key)?;
     next(task, answer)
@@ -51,7 +51,7 @@ fn list(
     limit: u32,
 ) -> Result<Ask, Memory>
     requires { task.old.waiting ≡ waits.Reading (asks.Range lo.now hi.now limit) }
-    ensures { IfOk result (λ ask. Awaits task.new.waiting ask) }
+    ensures { IfOk result (λ ask. TaskAwaits task.new.waiting ask) }
 {
     let found = rows_in(alloc, rows, lo, hi, limit)?;
     next(task, Answer::Rows(found))
@@ -60,7 +60,7 @@ fn list(
 /// The words are what the commit is answered.
 fn commit(alloc: Global, words: Option<&str>, task: &mut MetaTask) -> Result<Ask>
     requires { (reply : Reply) × (task.old.waiting ≡ waits.Committing reply) }
-    ensures { IfOk result (λ ask. Awaits task.new.waiting ask) }
+    ensures { IfOk result (λ ask. TaskAwaits task.new.waiting ask) }
 {
     let answer = committed(alloc, words.context("no answer is left to the commit")?)?;
     let ask = next(task, answer)?;
@@ -75,8 +75,8 @@ fn turn(
     task: &mut MetaTask,
     ask: Ask,
 ) -> Result<Option<Ask>>
-    requires { Awaits task.old.waiting ask }
-    ensures { IfOk result (λ next. MatchOption next (Unit {0}) (λ ask. Awaits task.new.waiting ask)) }
+    requires { TaskAwaits task.old.waiting ask }
+    ensures { IfOk result (λ next. MatchOption next (Unit {0}) (λ ask. TaskAwaits task.new.waiting ask)) }
 {
     match ask {
         Ask::Begin => Ok(Some(begin(task)?)),

@@ -27,9 +27,9 @@ abbrev pub id_of : ℕ → ℕ → ℕ
 id_of number server = 16 * number + server
 
 -- a given layout is looked at before the tree
-abbrev pub is_layout : Settings → Option DefaultLayout → Bool
-is_layout C None = true
-is_layout C (Some given) = admits C given
+abbrev pub admits_given : Settings → Option DefaultLayout → Bool
+admits_given C None = true
+admits_given C (Some given) = admits C given
 
 -- how many places of a new file's layout are in use
 abbrev pub first_hint : ℕ → ℕ
@@ -86,7 +86,7 @@ make_at C T server stamp node (AtParent dir name) =
 -- a layout that the configuration doesn't admit is refused before the walk
 abbrev pub make : Settings → Tree → ℕ → ℕ → NewNode → Place → Effect
 make C T server stamp node place = on_path (path_of place.text) (λ path.
-    if is_layout C node.layout then make_at C T server stamp node (resolve T place.base path Parent)
+    if admits_given C node.layout then make_at C T server stamp node (resolve T place.base path Parent)
     else refuses codes.BadLayout)
 
 -- ---- what each call makes

@@ -78,24 +78,24 @@ abbrev pub extended : Tree → ℕ → ℕ → Tree
 extended T id hint = record T { nodes = set T.nodes id (option_map (hinted hint) (get T.nodes id)) }
 
 -- the plan is what the call does
-abbrev pub IsPlan : Tree → ℕ → ℕ → Effect → Plan → Type 0
-IsPlan T server stamp effect (Refuse code) = effect ≡ refuses code
-IsPlan T server stamp effect (Add child) =
+abbrev pub IsPlanOfEffect : Tree → ℕ → ℕ → Effect → Plan → Type 0
+IsPlanOfEffect T server stamp effect (Refuse code) = effect ≡ refuses code
+IsPlanOfEffect T server stamp effect (Add child) =
     (effect ≡ Makes (added T server child) (Made child.id)) × (child.number < LAST_NUMBER)
-IsPlan T server stamp effect (Change id changes) =
+IsPlanOfEffect T server stamp effect (Change id changes) =
     IsSome (get T.nodes id) × (effect ≡ Makes (altered T id changes stamp) Done)
-IsPlan T server stamp effect (Join key id) =
+IsPlanOfEffect T server stamp effect (Join key id) =
     IsSome (get T.nodes id) × (effect ≡ Makes (linked T stamp key id) Done)
-IsPlan T server stamp effect (Detach key id fate) =
+IsPlanOfEffect T server stamp effect (Detach key id fate) =
     IsSome (get T.nodes id) × (effect ≡ Makes (detached T stamp key id fate) Done)
-IsPlan T server stamp effect Keep = effect ≡ Makes T Done
-IsPlan T server stamp effect (Move shift) =
+IsPlanOfEffect T server stamp effect Keep = effect ≡ Makes T Done
+IsPlanOfEffect T server stamp effect (Move shift) =
     (shift.from ≢ shift.to) × (effect ≡ Makes (moved T shift.from shift.to shift.id) Done)
-IsPlan T server stamp effect (Replace shift old fate) =
+IsPlanOfEffect T server stamp effect (Replace shift old fate) =
     (shift.from ≢ shift.to) × IsSome (get T.entries shift.to) × IsSome (get T.nodes old)
     × (effect ≡ Makes (replaced T stamp shift old fate) Done)
-IsPlan T server stamp effect (Open key file) = effect ≡ Makes (opened T key) (replies.File file)
-IsPlan T server stamp effect (Extend id hint) =
+IsPlanOfEffect T server stamp effect (Open key file) = effect ≡ Makes (opened T key) (replies.File file)
+IsPlanOfEffect T server stamp effect (Extend id hint) =
     IsSome (get T.nodes id) × (effect ≡ Makes (extended T id hint) (replies.Hint hint))
 
 -- the reply to a number that came before, or is older than one that did

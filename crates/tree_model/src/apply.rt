@@ -3,7 +3,7 @@ ghost use Rattle.std.specs.FinMap.{get};
 ghost use Rattle.std.specs.Option.{is_some};
 ghost use Rattle.tree_model.specs.Effects.{Leaves};
 ghost use Rattle.tree_model.specs.Calls.{apply, after_kept, effect, is_query, is_told, settle, settles};
-ghost use Rattle.tree_model.specs.Making.{IsPlan};
+ghost use Rattle.tree_model.specs.Making.{IsPlanOfEffect};
 
 use crate::new_node::NewNode;
 use crate::plan::Plan;
@@ -84,7 +84,7 @@ impl Tree {
         requires told { IsTrue (is_told request.now.call) }
         requires update { is_query request.now.call ≡ false }
         ensures { IfOk result
-            (IsPlan self.now.tree request.now.server request.now.stamp
+            (IsPlanOfEffect self.now.tree request.now.server request.now.stamp
             (effect self.now.config self.now.tree request.now)) }
     {
         match &request.call {

@@ -2,7 +2,7 @@ ghost use Rattle.std.specs.Prelude.{◌≡◌, IfOk};
 ghost use Rattle.std.specs.FinMap.{get};
 ghost use Rattle.tree_model.specs.Creating.{unless_there};
 ghost use Rattle.tree_model.specs.Linking.{is_empty_dir, link, link_at, link_node, link_to, link_under, rmdir, rmdir_at, rmdir_entry, unlink, unlink_at, unlink_entry};
-ghost use Rattle.tree_model.specs.Making.{IsPlan, fate_of};
+ghost use Rattle.tree_model.specs.Making.{IsPlanOfEffect, fate_of};
 
 use crate::node::NodePart;
 use crate::plan::{Fate, Plan};
@@ -29,7 +29,7 @@ pub(crate) fn fate_of(last: bool, part: &NodePart) -> Fate
 impl Tree {
     /// A further entry of a node, under this name.
     fn plan_link_node(&self, request: &Request, id: InodeId, key: (u64, Name)) -> Plan
-        ensures { IsPlan self.now.tree request.now.server request.now.stamp
+        ensures { IsPlanOfEffect self.now.tree request.now.server request.now.stamp
             (link_node self.now.tree request.now.stamp id key.0 key.1) result }
     {
         let Some(_node) = self.node(id.get()) else {
@@ -43,7 +43,7 @@ impl Tree {
 
     /// The same, where nothing stands there.
     fn plan_link_entry(&self, request: &Request, id: InodeId, key: (u64, Name)) -> Plan
-        ensures { IsPlan self.now.tree request.now.server request.now.stamp
+        ensures { IsPlanOfEffect self.now.tree request.now.server request.now.stamp
             (unless_there (get self.now.tree.entries key) (link_under self.now.tree request.now.stamp id key.0 key.1 (get self.now.tree.nodes key.0)))
             result }
     {
@@ -61,7 +61,7 @@ impl Tree {
     }
 
     fn plan_link_to(&self, request: &Request, id: InodeId, to: Walked) -> Plan
-        ensures { IsPlan self.now.tree request.now.server request.now.stamp
+        ensures { IsPlanOfEffect self.now.tree request.now.server request.now.stamp
             (link_to self.now.tree request.now.stamp id to) result }
     {
         match to {
@@ -73,7 +73,7 @@ impl Tree {
     }
 
     fn plan_link_of_kind(&self, request: &Request, kind: Kind, id: InodeId, to: Walked) -> Plan
-        ensures { IsPlan self.now.tree request.now.server request.now.stamp
+        ensures { IsPlanOfEffect self.now.tree request.now.server request.now.stamp
             (link_at self.now.tree request.now.stamp (Walked.At id kind) to) result }
     {
         match kind {
@@ -84,7 +84,7 @@ impl Tree {
     }
 
     fn plan_link_at(&self, request: &Request, from: Walked, to: Walked) -> Plan
-        ensures { IsPlan self.now.tree request.now.server request.now.stamp
+        ensures { IsPlanOfEffect self.now.tree request.now.server request.now.stamp
             (link_at self.now.tree request.now.stamp from to) result }
     {
         match from {
@@ -104,7 +104,7 @@ impl Tree {
         to: &Place,
     ) -> Result<Plan, Memory>
         ensures { IfOk result
-            (IsPlan self.now.tree request.now.server request.now.stamp
+            (IsPlanOfEffect self.now.tree request.now.server request.now.stamp
             (link self.now.tree request.now.stamp from.now to.now)) }
     {
         let source = match from.path(alloc)? {
@@ -122,7 +122,7 @@ impl Tree {
 
     /// Takes the entry at a name away.
     fn plan_unlink_entry(&self, request: &Request, key: (u64, Name)) -> Plan
-        ensures { IsPlan self.now.tree request.now.server request.now.stamp
+        ensures { IsPlanOfEffect self.now.tree request.now.server request.now.stamp
             (unlink_entry self.now.tree request.now.stamp key.0 key.1 (get self.now.tree.entries key)) result }
     {
         let Some(id) = self.entry(&key) else {
@@ -139,7 +139,7 @@ impl Tree {
     }
 
     fn plan_unlink_at(&self, request: &Request, walked: Walked) -> Plan
-        ensures { IsPlan self.now.tree request.now.server request.now.stamp
+        ensures { IsPlanOfEffect self.now.tree request.now.server request.now.stamp
             (unlink_at self.now.tree request.now.stamp walked) result }
     {
         match walked {
@@ -158,7 +158,7 @@ impl Tree {
         place: &Place,
     ) -> Result<Plan, Memory>
         ensures { IfOk result
-            (IsPlan self.now.tree request.now.server request.now.stamp
+            (IsPlanOfEffect self.now.tree request.now.server request.now.stamp
             (unlink self.now.tree request.now.stamp place.now)) }
     {
         match place.path(alloc)? {
@@ -185,7 +185,7 @@ impl Tree {
 
     /// Takes the directory at a name away.
     fn plan_rmdir_entry(&self, request: &Request, key: (u64, Name)) -> Plan
-        ensures { IsPlan self.now.tree request.now.server request.now.stamp
+        ensures { IsPlanOfEffect self.now.tree request.now.server request.now.stamp
             (rmdir_entry self.now.tree key.0 key.1 (get self.now.tree.entries key)) result }
     {
         let Some(id) = self.entry(&key) else {
@@ -207,7 +207,8 @@ impl Tree {
     }
 
     fn plan_rmdir_at(&self, request: &Request, walked: Walked) -> Plan
-        ensures { IsPlan self.now.tree request.now.server request.now.stamp (rmdir_at self.now.tree walked)
+        ensures { IsPlanOfEffect self.now.tree request.now.server request.now.stamp
+            (rmdir_at self.now.tree walked)
             result }
     {
         match walked {
@@ -226,7 +227,8 @@ impl Tree {
         place: &Place,
     ) -> Result<Plan, Memory>
         ensures { IfOk result
-            (IsPlan self.now.tree request.now.server request.now.stamp (rmdir self.now.tree place.now)) }
+            (IsPlanOfEffect self.now.tree request.now.server request.now.stamp
+            (rmdir self.now.tree place.now)) }
     {
         match place.path(alloc)? {
             Ok(path) => {

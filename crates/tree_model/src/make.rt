@@ -1,7 +1,7 @@
 ghost use Rattle.std.specs.Prelude.{◌≡◌, ◌<◌, IfOk};
 ghost use Rattle.std.specs.FinMap.{get};
-ghost use Rattle.tree_model.specs.Creating.{is_layout, unless_there, add_child, make_at, make, symlink};
-ghost use Rattle.tree_model.specs.Making.{IsPlan};
+ghost use Rattle.tree_model.specs.Creating.{admits_given, unless_there, add_child, make_at, make, symlink};
+ghost use Rattle.tree_model.specs.Making.{IsPlanOfEffect};
 
 use crate::new_node::NewNode;
 use crate::node::{Node, NodePart};
@@ -15,7 +15,7 @@ use std::alloc::Global;
 
 /// Whether a call may give this default layout: none, or one that the configuration admits.
 pub fn is_layout(config: &Config, given: Option<DefaultLayout>) -> bool
-    ensures { result ≡ is_layout config.now given }
+    ensures { result ≡ admits_given config.now given }
 {
     match given {
         None => true,
@@ -27,7 +27,7 @@ impl Tree {
     /// A new node under this name, where nothing stands there.
     fn plan_child(&self, request: &Request, new: NewNode, key: (u64, Name)) -> Plan
         requires { request.now.server < SERVERS }
-        ensures { IsPlan self.now.tree request.now.server request.now.stamp
+        ensures { IsPlanOfEffect self.now.tree request.now.server request.now.stamp
             (unless_there (get self.now.tree.entries key) (add_child self.now.config self.now.tree request.now.server request.now.stamp new key.0 key.1 (get self.now.tree.nodes key.0)))
             result }
     {
@@ -57,7 +57,7 @@ impl Tree {
 
     fn plan_at(&self, request: &Request, new: NewNode, walked: Walked) -> Plan
         requires { request.now.server < SERVERS }
-        ensures { IsPlan self.now.tree request.now.server request.now.stamp
+        ensures { IsPlanOfEffect self.now.tree request.now.server request.now.stamp
             (make_at self.now.config self.now.tree request.now.server request.now.stamp new walked) result }
     {
         match walked {
@@ -78,7 +78,7 @@ impl Tree {
     ) -> Result<Plan, Memory>
         requires { request.now.server < SERVERS }
         ensures { IfOk result
-            (IsPlan self.now.tree request.now.server request.now.stamp
+            (IsPlanOfEffect self.now.tree request.now.server request.now.stamp
             (make self.now.config self.now.tree request.now.server request.now.stamp new place.now)) }
     {
         let path = match place.path(alloc)? {
@@ -101,7 +101,7 @@ impl Tree {
     ) -> Result<Plan, Memory>
         requires { request.now.server < SERVERS }
         ensures { IfOk result
-            (IsPlan self.now.tree request.now.server request.now.stamp
+            (IsPlanOfEffect self.now.tree request.now.server request.now.stamp
             (symlink self.now.config self.now.tree request.now.server request.now.stamp place.now target.now)) }
     {
         let path = match place.path(alloc)? {

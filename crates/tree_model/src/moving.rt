@@ -1,7 +1,7 @@
 ghost use Rattle.std.specs.Prelude.{◌≡◌, ◌≢◌, Some, IsSome, IfOk};
 ghost use Rattle.std.specs.FinMap.{get};
 ghost use Rattle.tree_model.specs.Finding.{if_there};
-ghost use Rattle.tree_model.specs.Making.{IsPlan};
+ghost use Rattle.tree_model.specs.Making.{IsPlanOfEffect};
 ghost use Rattle.tree_model.specs.Moving.{dir_over, goes_below, is_below, move_at, move_entry, move_over, move_to, move_under, other_over, reaches, rename, rename_at};
 
 use crate::linking::fate_of;
@@ -53,7 +53,7 @@ impl Tree {
         requires apart { shift.from ≢ shift.to }
         requires taken { IsSome (get self.now.tree.entries shift.to) }
         requires there { IsSome (get self.now.tree.nodes old) }
-        ensures { IsPlan self.now.tree request.now.server request.now.stamp
+        ensures { IsPlanOfEffect self.now.tree request.now.server request.now.stamp
             (dir_over self.now.tree shift.from shift.to shift.id old part.now) result }
     {
         match part {
@@ -73,7 +73,7 @@ impl Tree {
         requires apart { shift.from ≢ shift.to }
         requires taken { get self.now.tree.entries shift.to ≡ Some old }
         requires there { get self.now.tree.nodes old ≡ Some node.now }
-        ensures { IsPlan self.now.tree request.now.server request.now.stamp
+        ensures { IsPlanOfEffect self.now.tree request.now.server request.now.stamp
             (other_over self.now.tree request.now.stamp shift.from shift.to shift.id old node.now
             node.now.part) result }
     {
@@ -88,7 +88,7 @@ impl Tree {
     fn plan_move_over(&self, request: &Request, shift: Shift, part: &NodePart, old: InodeId) -> Plan
         requires apart { shift.from ≢ shift.to }
         requires taken { get self.now.tree.entries shift.to ≡ Some old }
-        ensures { IsPlan self.now.tree request.now.server request.now.stamp
+        ensures { IsPlanOfEffect self.now.tree request.now.server request.now.stamp
             (if_there (get self.now.tree.nodes old)
             (move_over self.now.tree request.now.stamp shift.from shift.to shift.id old part.now)) result }
     {
@@ -112,7 +112,7 @@ impl Tree {
     ) -> Plan
         requires from { get self.now.tree.entries shift.from ≡ Some shift.id }
         requires taken { get self.now.tree.entries shift.to ≡ Some old }
-        ensures { IsPlan self.now.tree request.now.server request.now.stamp
+        ensures { IsPlanOfEffect self.now.tree request.now.server request.now.stamp
             (move_to self.now.tree request.now.stamp shift.from shift.to shift.id part.now (Some old)) result }
     {
         if old.get() == shift.id.get() {
@@ -127,7 +127,7 @@ impl Tree {
     /// A node of this kind to a place, by what stands there.
     fn plan_move_to(&self, request: &Request, shift: Shift, part: &NodePart) -> Plan
         requires { get self.now.tree.entries shift.from ≡ Some shift.id }
-        ensures { IsPlan self.now.tree request.now.server request.now.stamp
+        ensures { IsPlanOfEffect self.now.tree request.now.server request.now.stamp
             (move_to self.now.tree request.now.stamp shift.from shift.to shift.id part.now
             (get self.now.tree.entries shift.to)) result }
     {
@@ -143,7 +143,7 @@ impl Tree {
     /// The same, where the place lies in a directory.
     fn plan_move_under(&self, request: &Request, shift: Shift, part: &NodePart) -> Plan
         requires { get self.now.tree.entries shift.from ≡ Some shift.id }
-        ensures { IsPlan self.now.tree request.now.server request.now.stamp
+        ensures { IsPlanOfEffect self.now.tree request.now.server request.now.stamp
             (move_under self.now.tree request.now.stamp shift.from shift.to shift.id part.now
             (get self.now.tree.nodes shift.to.0)) result }
     {
@@ -166,7 +166,7 @@ impl Tree {
         to: Walked,
     ) -> Plan
         requires { get self.now.tree.entries from ≡ Some id }
-        ensures { IsPlan self.now.tree request.now.server request.now.stamp
+        ensures { IsPlanOfEffect self.now.tree request.now.server request.now.stamp
             (move_at self.now.tree request.now.stamp from id part.now to) result }
     {
         match to {
@@ -181,7 +181,7 @@ impl Tree {
     }
 
     fn plan_move_entry(&self, request: &Request, from: (u64, Name), to: Walked) -> Plan
-        ensures { IsPlan self.now.tree request.now.server request.now.stamp
+        ensures { IsPlanOfEffect self.now.tree request.now.server request.now.stamp
             (move_entry self.now.tree request.now.stamp from to (get self.now.tree.entries from)) result }
     {
         let Some(id) = self.entry(&from) else {
@@ -194,7 +194,7 @@ impl Tree {
     }
 
     fn plan_rename_at(&self, request: &Request, from: Walked, to: Walked) -> Plan
-        ensures { IsPlan self.now.tree request.now.server request.now.stamp
+        ensures { IsPlanOfEffect self.now.tree request.now.server request.now.stamp
             (rename_at self.now.tree request.now.stamp from to) result }
     {
         match from {
@@ -214,7 +214,7 @@ impl Tree {
         to: &Place,
     ) -> Result<Plan, Memory>
         ensures { IfOk result
-            (IsPlan self.now.tree request.now.server request.now.stamp
+            (IsPlanOfEffect self.now.tree request.now.server request.now.stamp
             (rename self.now.tree request.now.stamp from.now to.now)) }
     {
         let source = match from.path(alloc)? {

@@ -1,7 +1,7 @@
 ghost use Rattle.std.specs.Prelude.{◌≡◌, IfOk};
 ghost use Rattle.std.specs.Option.{option_copied};
 ghost use Rattle.tree_model.specs.Effects.{Leaves};
-ghost use Rattle.tree_model.specs.Making.{IsPlan};
+ghost use Rattle.tree_model.specs.Making.{IsPlanOfEffect};
 ghost use Rattle.tree_model.specs.Sessions.{doubled, extend, file_there, fstat, has_session, hint_over, open_to_read, open_to_write, open_to_write_at, opened_at, opened_node, session_file};
 
 use crate::node::Node;
@@ -103,7 +103,7 @@ impl Tree {
     }
 
     fn plan_open_at(&self, request: &Request, walked: Walked) -> Plan
-        ensures { IsPlan self.now.tree request.now.server request.now.stamp
+        ensures { IsPlanOfEffect self.now.tree request.now.server request.now.stamp
             (open_to_write_at self.now.tree request.now.client request.now.number walked) result }
     {
         match self.opened_at(walked) {
@@ -120,7 +120,7 @@ impl Tree {
         place: &Place,
     ) -> Result<Plan, Memory>
         ensures { IfOk result
-            (IsPlan self.now.tree request.now.server request.now.stamp
+            (IsPlanOfEffect self.now.tree request.now.server request.now.stamp
             (open_to_write self.now.tree request.now.client request.now.number place.now)) }
     {
         match place.path(alloc)? {
@@ -168,7 +168,7 @@ impl Tree {
 
     /// A place of a session's file is brought into use.
     pub(crate) fn plan_extend(&self, request: &Request, session: &Session, place: u16) -> Plan
-        ensures { IsPlan self.now.tree request.now.server request.now.stamp
+        ensures { IsPlanOfEffect self.now.tree request.now.server request.now.stamp
             (extend self.now.tree request.now.client session.now place) result }
     {
         let file = match self.session_file(request.client, session) {

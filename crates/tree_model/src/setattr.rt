@@ -3,7 +3,7 @@ ghost use Rattle.std.specs.Option.{option_map};
 ghost use Rattle.std.specs.FinMap.{get};
 ghost use Rattle.tree_model.specs.Attributes.{changed, touched};
 ghost use Rattle.tree_model.specs.Finding.{setattr, setattr_at};
-ghost use Rattle.tree_model.specs.Making.{IsPlan};
+ghost use Rattle.tree_model.specs.Making.{IsPlanOfEffect};
 ghost use Rattle.tree_model.specs.Maps.{set};
 ghost use Rattle.tree_model.specs.Sessions.{hinted};
 
@@ -56,7 +56,7 @@ pub(crate) fn hint_node(nodes: &mut ByNumber<Node>, id: u64, hint: u16)
 
 impl Tree {
     fn plan_change(&self, request: &Request, changes: Changes, walked: Walked) -> Plan
-        ensures { IsPlan self.now.tree request.now.server request.now.stamp
+        ensures { IsPlanOfEffect self.now.tree request.now.server request.now.stamp
             (setattr_at self.now.tree request.now.stamp changes walked) result }
     {
         match walked {
@@ -78,7 +78,7 @@ impl Tree {
         changes: Changes,
     ) -> Result<Plan, Memory>
         ensures { IfOk result
-            (IsPlan self.now.tree request.now.server request.now.stamp
+            (IsPlanOfEffect self.now.tree request.now.server request.now.stamp
             (setattr self.now.tree request.now.stamp place.now changes)) }
     {
         match place.path(alloc)? {

@@ -20,7 +20,7 @@ use Rattle.fs_base.specs.declared.memory.Memory.{Memory}
 use Rattle.fs_base.specs.declared.row.Row.{Row}
 use Rattle.key_schema.specs.Ranges.{dir_prefix, raised}
 use Rattle.row_records.specs.declared.rows.DentRow.{DentRow}
-use Rattle.row_tree.specs.Spelling.{spelled_dent}
+use Rattle.row_tree.specs.Spelling.{spelled_dent_row}
 use Rattle.row_tree.specs.TypedRows.{TypedRows, dir_rows}
 use Rattle.row_tree.proofs.DirRanges.{dir_range_rows}
 use Rattle.row_tree.proofs.Ranges.{empty_range, used_range}
@@ -206,25 +206,25 @@ range_pages rows lo hi ranges ascending agrees none = pages_are rows ascending h
 
 -- all pages of a directory are its rows
 pub all_pages : (reads : ReadSet) (dir : ℕ) → dir < 2 ^ 36 → next_page (raised (dir_prefix dir)) (Some (dir_prefix dir)) reads.ranges ≡ None
-    → (S : TypedRows) → Agrees S reads → map (spelled_dent dir) (dir_rows S dir) ≡ page_rows (raised (dir_prefix dir)) (Some (dir_prefix dir)) reads.ranges
+    → (S : TypedRows) → Agrees S reads → map (spelled_dent_row dir) (dir_rows S dir) ≡ page_rows (raised (dir_prefix dir)) (Some (dir_prefix dir)) reads.ranges
 all_pages reads dir fits none S a =
     sym (dir_range_rows a.rows S a.ascending a.spells dir fits)
     ∙ range_pages a.rows (dir_prefix dir) (raised (dir_prefix dir)) reads.ranges a.ascending a.agrees.ranges none
 
 -- ---- the first row of a range
-first_gives : (reads : ReadSet) (lo hi : List ℕ) (range : RangeRead) → first_read lo hi reads.ranges ≡ Some range → (rows : List Row) → bytes.Agrees rows reads → take 1 (range_rows rows lo hi) ≡ range.rows
+first_gives : (reads : ReadSet) (lo hi : List ℕ) (range : RangeRead) → first_read lo hi reads.ranges ≡ Some range → (rows : List Row) → bytes.RowsAgree rows reads → take 1 (range_rows rows lo hi) ≡ range.rows
 first_gives reads lo hi range is rows agrees =
     let found = range_found (reads_range lo hi 1) reads.ranges range is in
     read_between rows lo hi 1 range found.passes (found.gives rows agrees.ranges)
 
-pub first_empty : (reads : ReadSet) (lo hi : List ℕ) (range : RangeRead) → first_read lo hi reads.ranges ≡ Some range → range.rows ≡ [] → (rows : List Row) → bytes.Agrees rows reads → range_rows rows lo hi ≡ []
+pub first_empty : (reads : ReadSet) (lo hi : List ℕ) (range : RangeRead) → first_read lo hi reads.ranges ≡ Some range → range.rows ≡ [] → (rows : List Row) → bytes.RowsAgree rows reads → range_rows rows lo hi ≡ []
 first_empty reads lo hi range is none rows agrees = empty (range_rows rows lo hi) (first_gives reads lo hi range is rows agrees ∙ none)
   where
     empty : (xs : List Row) → take 1 xs ≡ [] → xs ≡ []
     empty [] e = refl
     empty (x ∷ xs) e = absurd (cc)
 
-pub first_used : (reads : ReadSet) (lo hi : List ℕ) (range : RangeRead) → first_read lo hi reads.ranges ≡ Some range → (range.rows ≡ [] → ⊥) → (rows : List Row) → bytes.Agrees rows reads → (row : Row) × (more : List Row) × (range_rows rows lo hi ≡ row ∷ more)
+pub first_used : (reads : ReadSet) (lo hi : List ℕ) (range : RangeRead) → first_read lo hi reads.ranges ≡ Some range → (range.rows ≡ [] → ⊥) → (rows : List Row) → bytes.RowsAgree rows reads → (row : Row) × (more : List Row) × (range_rows rows lo hi ≡ row ∷ more)
 first_used reads lo hi range is some rows agrees = used (range_rows rows lo hi) (first_gives reads lo hi range is rows agrees)
   where
     used : (xs : List Row) → take 1 xs ≡ range.rows → (row : Row) × (more : List Row) × (xs ≡ row ∷ more)
@@ -232,21 +232,21 @@ first_used reads lo hi range is some rows agrees = used (range_rows rows lo hi) 
     used (x ∷ xs) e = (x, xs, refl)
 
 -- ---- the same of a directory
-pub dir_empty : (dir : ℕ) (S : TypedRows) (reads : ReadSet) → dir < 2 ^ 36 → ((rows : List Row) → bytes.Agrees rows reads → range_rows rows (dir_prefix dir) (raised (dir_prefix dir)) ≡ []) → Agrees S reads → (name : List ℕ) → get S.dents (dir, name) ≡ None
+pub dir_empty : (dir : ℕ) (S : TypedRows) (reads : ReadSet) → dir < 2 ^ 36 → ((rows : List Row) → bytes.RowsAgree rows reads → range_rows rows (dir_prefix dir) (raised (dir_prefix dir)) ≡ []) → Agrees S reads → (name : List ℕ) → get S.dents (dir, name) ≡ None
 dir_empty dir S reads fits none a = empty_range S dir 0 (ap (take 1) (unmapped (dir_rows S dir) (sym (dir_range_rows a.rows S a.ascending a.spells dir fits) ∙ none a.rows a.agrees)))
   where
-    unmapped : (es : List (List ℕ × DentRow)) → map (spelled_dent dir) es ≡ [] → es ≡ []
+    unmapped : (es : List (List ℕ × DentRow)) → map (spelled_dent_row dir) es ≡ [] → es ≡ []
     unmapped [] e = refl
     unmapped (x ∷ es) e = absurd (cc)
 
-pub dir_used : (dir : ℕ) (S : TypedRows) (reads : ReadSet) → dir < 2 ^ 36 → ((rows : List Row) → bytes.Agrees rows reads → (row : Row) × (more : List Row) × (range_rows rows (dir_prefix dir) (raised (dir_prefix dir)) ≡ row ∷ more)) → Agrees S reads
+pub dir_used : (dir : ℕ) (S : TypedRows) (reads : ReadSet) → dir < 2 ^ 36 → ((rows : List Row) → bytes.RowsAgree rows reads → (row : Row) × (more : List Row) × (range_rows rows (dir_prefix dir) (raised (dir_prefix dir)) ≡ row ∷ more)) → Agrees S reads
     → (name : List ℕ) × (row : DentRow) × (get S.dents (dir, name) ≡ Some row)
 dir_used dir S reads fits some a =
     let first = some a.rows a.agrees in
     let entry = unmapped (dir_rows S dir) first.0 first.1 (sym (dir_range_rows a.rows S a.ascending a.spells dir fits) ∙ first.2) in
     (entry.0.0, entry.0.1, used_range S dir 0 entry.0 [] (ap (take 1) entry.2))
   where
-    unmapped : (es : List (List ℕ × DentRow)) (row : Row) (more : List Row) → map (spelled_dent dir) es ≡ row ∷ more → (e : List ℕ × DentRow) × (rest : List (List ℕ × DentRow)) × (es ≡ e ∷ rest)
+    unmapped : (es : List (List ℕ × DentRow)) (row : Row) (more : List Row) → map (spelled_dent_row dir) es ≡ row ∷ more → (e : List ℕ × DentRow) × (rest : List (List ℕ × DentRow)) × (es ≡ e ∷ rest)
     unmapped [] row more e = absurd (cc)
     unmapped (x ∷ es) row more e = (x, es, refl)
 

@@ -15,7 +15,7 @@ use Rattle.key_schema.specs.Keys.{spelled_key, IsSpellable, IsValidKey}
 use Rattle.key_schema.specs.declared.key.Key.{Key}
 use Rattle.row_tree.specs.Reading.{HasNoValue}
 use Rattle.row_tree.specs.Spelling.{Spells, IsValueOf}
-use Rattle.row_tree.specs.TypedRows.{TypedRows, lookup, write}
+use Rattle.row_tree.specs.TypedRows.{TypedRows, value_at, write}
 use Rattle.row_tree.specs.Values.{Value, spelled_value}
 use Rattle.row_tree.proofs.OneValue.{one_value_each}
 use Rattle.row_tree.proofs.SpellingLaws.{at_any, spells_write, found_back, lookup-form}
@@ -29,7 +29,7 @@ use Rattle.txn_task.specs.Writes.{set_write, read_of}
 use Rattle.txn_task.proofs.WriteLaws.{with_writes-set_write, ascending_put, value_of_read}
 
 -- ---- what a read tells
-pub told_key : (S : TypedRows) (reads : ReadSet) (k : Key) (v : Option (List ℕ)) → Agrees S reads → IsSpellable k → read_of reads.keys (spelled_key k) ≡ Some v → option_map spelled_value (lookup S k) ≡ v
+pub told_key : (S : TypedRows) (reads : ReadSet) (k : Key) (v : Option (List ℕ)) → Agrees S reads → IsSpellable k → read_of reads.keys (spelled_key k) ≡ Some v → option_map spelled_value (value_at S k) ≡ v
 told_key S reads k v a fits is = sym (at_any a.rows S a.spells k fits) ∙ value_of_read a.rows reads.keys (spelled_key k) v a.agrees.keys is
 
 none_back : (o : Option Value) → option_map spelled_value o ≡ None → o ≡ None
@@ -37,19 +37,19 @@ none_back None e = refl
 none_back (Some v) e = absurd (cc)
 
 -- nothing was there
-pub told_absent : (S : TypedRows) (reads : ReadSet) (k : Key) → Agrees S reads → IsSpellable k → read_of reads.keys (spelled_key k) ≡ Some None → lookup S k ≡ None
-told_absent S reads k a fits is = none_back (lookup S k) (told_key S reads k None a fits is)
+pub told_absent : (S : TypedRows) (reads : ReadSet) (k : Key) → Agrees S reads → IsSpellable k → read_of reads.keys (spelled_key k) ≡ Some None → value_at S k ≡ None
+told_absent S reads k a fits is = none_back (value_at S k) (told_key S reads k None a fits is)
 
 -- the spelling of a value was there
-pub told_there : (S : TypedRows) (reads : ReadSet) (k : Key) (w : Value) → Agrees S reads → IsSpellable k → read_of reads.keys (spelled_key k) ≡ Some (Some (spelled_value w)) → IsValueOf k (Some w) → lookup S k ≡ Some w
+pub told_there : (S : TypedRows) (reads : ReadSet) (k : Key) (w : Value) → Agrees S reads → IsSpellable k → read_of reads.keys (spelled_key k) ≡ Some (Some (spelled_value w)) → IsValueOf k (Some w) → value_at S k ≡ Some w
 told_there S reads k w a fits is h =
-    let found = found_back (lookup S k) (spelled_value w) (sym (told_key S reads k (Some (spelled_value w)) a fits is)) in
+    let found = found_back (value_at S k) (spelled_value w) (sym (told_key S reads k (Some (spelled_value w)) a fits is)) in
     found.1 ∙ ap Some (one_value_each k found.0 w (lookup-form S k found.0 found.1) h.0 (a.spells.fits k found.0 found.1).1 h.1 found.2)
 
 -- bytes were there that spell no value of the key's form: no rows agree
 pub told_never : (S : TypedRows) (reads : ReadSet) (k : Key) (b : List ℕ) → Agrees S reads → IsSpellable k → read_of reads.keys (spelled_key k) ≡ Some (Some b) → HasNoValue k b → ⊥
 told_never S reads k b a fits is never =
-    let found = found_back (lookup S k) b (sym (told_key S reads k (Some b) a fits is)) in
+    let found = found_back (value_at S k) b (sym (told_key S reads k (Some b) a fits is)) in
     never found.0 (lookup-form S k found.0 found.1, (a.spells.fits k found.0 found.1).1) found.2
 
 -- ---- a put keeps the writes those of valid keys, in order
@@ -78,7 +78,7 @@ leads_put writes S U k w made valid h =
     }
 
 -- ---- fewer reads agree with more rows
-pub agrees_fewer : (S : TypedRows) (reads more : ReadSet) → ((rows : List Row) → bytes.Agrees rows more → bytes.Agrees rows reads) → Agrees S more → Agrees S reads
+pub agrees_fewer : (S : TypedRows) (reads more : ReadSet) → ((rows : List Row) → bytes.RowsAgree rows more → bytes.RowsAgree rows reads) → Agrees S more → Agrees S reads
 agrees_fewer S reads more fewer a = record { rows = a.rows; ascending = a.ascending; spells = a.spells; agrees = fewer a.rows a.agrees }
 
 keys_fewer : (rows : List Row) (reads more : List KeyRead) → bytes.KeysAgree rows (reads ++ more) → bytes.KeysAgree rows reads

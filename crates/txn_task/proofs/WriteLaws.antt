@@ -17,7 +17,7 @@ use Rattle.conflict_sets.proofs.RowRanges.{same_rows, not_true}
 use Rattle.std.specs.Prelude.{slice_get, insert}
 use Rattle.std.proofs.lemmas.List.{take_more, take_all, set_split, drop_more}
 use Rattle.std.proofs.lemmas.Option.{slice_get_past}
-use Rattle.txn_task.specs.Transactions.{WritesBefore, IsPlace, has_key}
+use Rattle.txn_task.specs.Transactions.{WritesBefore, IsWritePlace, has_key}
 
 both_keys : (k j q : List ℕ) → key_cmp k j ≡ Less → is_eq (key_cmp q k) ≡ true → is_eq (key_cmp q j) ≡ false
 both_keys k j q l e = by_place _ q k
@@ -180,7 +180,7 @@ before_more k ws i w l at n h =
         (λ e. absurd (let f : true ≡ false = (rw e at h) in cc))
         (λ e. e)
 
-pub place_end : (k : List ℕ) (ws : List Write) (i : ℕ) → length ws ≤ i → WritesBefore k (take i ws) → IsPlace ws k (length ws)
+pub place_end : (k : List ℕ) (ws : List Write) (i : ℕ) → length ws ≤ i → WritesBefore k (take i ws) → IsWritePlace ws k (length ws)
 place_end k ws i l h =
     let P : List Write → Type 0 = λ rs. WritesBefore k rs in
     record {
@@ -190,13 +190,13 @@ place_end k ws i l h =
     }
 
 pub record Found (ws : List Write) (k : List ℕ) (p : ℕ) (there : Bool) : Type 0 where
-  pub is : IsPlace ws k p
+  pub is : IsWritePlace ws k p
   pub test : has_key (slice_get ws p) k ≡ there
 
-pub found : (ws s1 s2 : List Write) (k k1 k2 : List ℕ) (p : ℕ) (b there : Bool) → s1 ≡ ws → s2 ≡ ws → k1 ≡ k → k2 ≡ k → IsPlace s1 k1 p → b ≡ has_key (slice_get s2 p) k2 → b ≡ there → Found ws k p there
+pub found : (ws s1 s2 : List Write) (k k1 k2 : List ℕ) (p : ℕ) (b there : Bool) → s1 ≡ ws → s2 ≡ ws → k1 ≡ k → k2 ≡ k → IsWritePlace s1 k1 p → b ≡ has_key (slice_get s2 p) k2 → b ≡ there → Found ws k p there
 found ws s1 s2 k k1 k2 p b there e1 e2 f1 f2 is test t =
-    let P : List Write → Type 0 = λ rs. IsPlace rs k p in
-    let Q : List ℕ → Type 0 = λ q. IsPlace s1 q p in
+    let P : List Write → Type 0 = λ rs. IsWritePlace rs k p in
+    let Q : List ℕ → Type 0 = λ q. IsWritePlace s1 q p in
     record {
       is = subst P e1 (subst Q f1 is);
       test = ap (λ rs. has_key (slice_get rs p) k) (sym e2) ∙ (ap (has_key (slice_get s2 p)) (sym f2) ∙ (sym test ∙ t));

@@ -16,7 +16,7 @@ pub record Agrees (S : TypedRows) (reads : ReadSet) : Type 0 where
   pub rows : List Row
   pub ascending : IsAscending rows
   pub spells : Spells rows S
-  pub agrees : bytes.Agrees rows reads
+  pub agrees : bytes.RowsAgree rows reads
 
 -- each written key is the spelling of a valid key
 abbrev pub HaveValidKeys : List Write → Type 0

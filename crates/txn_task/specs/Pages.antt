@@ -70,5 +70,5 @@ abbrev pub IsWantPages : Option Ask → ReadSet → List ℕ → List ℕ → Ty
 IsWantPages (Some ask) reads lo hi = AsksPage lo hi reads.ranges ask
 IsWantPages None reads lo hi =
     (next_page hi (Some lo) reads.ranges ≡ None)
-    × ((rows : List Row) → IsAscending rows → bytes.Agrees rows reads
+    × ((rows : List Row) → IsAscending rows → bytes.RowsAgree rows reads
     → range_rows rows lo hi ≡ page_rows hi (Some lo) reads.ranges)

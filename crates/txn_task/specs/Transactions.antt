@@ -62,7 +62,7 @@ WritesBefore key [] = Unit {0}
 WritesBefore key (write ∷ writes) = (key_cmp key write.key ≡ Greater) × WritesBefore key writes
 
 -- where a write of the key belongs
-pub record IsPlace (writes : List Write) (key : List ℕ) (place : ℕ) : Type 0 where
+pub record IsWritePlace (writes : List Write) (key : List ℕ) (place : ℕ) : Type 0 where
   pub within : place ≤ length writes
   pub before : WritesBefore key (take place writes)
   pub not_after : (write : Write) → slice_get writes place ≡ Some write → is_le (key_cmp key write.key) ≡ true

@@ -38,9 +38,9 @@ IsWant (wants.There row) reads key look =
     IsKeyRead reads key × ((S : TypedRows) → Agrees S reads → look S ≡ Some row)
 
 -- what reading a row gave, but for want of memory
-abbrev pub IsReading : {X : Type 0} → Result X ℕ → Option X → Type 0
-IsReading answer None = (place : ℕ) × (answer ≡ Err place)
-IsReading answer (Some row) = answer ≡ Ok row
+abbrev pub IsRowReading : {X : Type 0} → Result X ℕ → Option X → Type 0
+IsRowReading answer None = (place : ℕ) × (answer ≡ Err place)
+IsRowReading answer (Some row) = answer ≡ Ok row
 
 -- ---- the first row of a range
 
@@ -57,10 +57,10 @@ AsksFirst lo hi ranges ask = (first_read lo hi ranges ≡ None) × (ask ≡ asks
 abbrev pub IsWantFirst : WantFirst → ReadSet → List ℕ → List ℕ → Type 0
 IsWantFirst (firsts.Ask ask) reads lo hi = AsksFirst lo hi reads.ranges ask
 IsWantFirst firsts.Empty reads lo hi =
-    IsFirstRead reads lo hi × ((rows : List Row) → bytes.Agrees rows reads → range_rows rows lo hi ≡ [])
+    IsFirstRead reads lo hi × ((rows : List Row) → bytes.RowsAgree rows reads → range_rows rows lo hi ≡ [])
 IsWantFirst firsts.Used reads lo hi =
     IsFirstRead reads lo hi
-    × ((rows : List Row) → bytes.Agrees rows reads → (row : Row) × (more : List Row)
+    × ((rows : List Row) → bytes.RowsAgree rows reads → (row : Row) × (more : List Row)
     × (range_rows rows lo hi ≡ row ∷ more))
 
 -- the same of a directory's entries

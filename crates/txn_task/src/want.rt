@@ -1,12 +1,12 @@
 ghost use Rattle.std.specs.Prelude.{◌≡◌, ℕ, Some, None, Result, IfOk, IsOk};
 ghost use Rattle.std.specs.FinMap.{get};
 ghost use Rattle.std.specs.Option.{option_map};
-ghost use Rattle.byte_fields.specs.Outcome.{place_of, NeedsNoMemory};
+ghost use Rattle.byte_fields.specs.Outcome.{fault_place, NeedsNoMemory};
 ghost use Rattle.fs_base.specs.Gives.{Gives};
 ghost use Rattle.key_schema.specs.Keys.{spelled_key};
 ghost use Rattle.key_schema.specs.declared.key.Key.TheVariants as keys;
 ghost use Rattle.row_tree.specs.TypedRows.{TypedRows};
-ghost use Rattle.txn_task.specs.Wanted.{IsReading, IsWant};
+ghost use Rattle.txn_task.specs.Wanted.{IsRowReading, IsWant};
 ghost use Rattle.txn_task.specs.Writes.{read_of};
 
 use crate::txn::Txn;
@@ -28,7 +28,11 @@ pub enum Want<T> {
     There(T),
 }
 
-pub(crate) fn kept_at<'a>(alloc: Global, txn: &'a Txn, key: &Key) -> Result<Option<Option<&'a [u8]>>, Memory>
+pub(crate) fn kept_at<'a>(
+    alloc: Global,
+    txn: &'a Txn,
+    key: &Key,
+) -> Result<Option<Option<&'a [u8]>>, Memory>
     ensures { IfOk result
         (λ kept. option_map (option_map (λ v. v.now)) kept ≡ read_of txn.now.reads.keys (spelled_key key.now)) }
 {
@@ -39,8 +43,8 @@ pub(crate) fn kept_at<'a>(alloc: Global, txn: &'a Txn, key: &Key) -> Result<Opti
 /// The row, or none where the bytes aren't one.
 pub(crate) fn found<T: Drop>(row: Result<T, RowError>) -> Result<Option<T>, Memory>
     ensures read { IfOk result
-        (λ read. (answer : Result T ℕ) → Gives place_of (λ x. x) row answer → IsReading answer read) }
-    ensures memory { NeedsNoMemory place_of row → IsOk result }
+        (λ read. (answer : Result T ℕ) → Gives fault_place (λ x. x) row answer → IsRowReading answer read) }
+    ensures memory { NeedsNoMemory fault_place row → IsOk result }
 {
     match row {
         Ok(row) => Ok(Some(row)),

@@ -1,13 +1,13 @@
 ghost use Rattle.std.specs.Prelude.{◌≡◌, OnOk, OnErr, slice_get};
 ghost use Rattle.txn_task.specs.Writes.{set_write};
-ghost use Rattle.txn_task.specs.Transactions.{IsPlace, has_key};
+ghost use Rattle.txn_task.specs.Transactions.{IsWritePlace, has_key};
 
 use conflict_sets::{Write, compare};
 use fs_base::Memory;
 
 /// The place of the first write whose key isn't below this one.
 fn place_of(writes: &[Write], key: &[u8]) -> usize
-    ensures { IsPlace writes.now key.now result }
+    ensures { IsWritePlace writes.now key.now result }
 {
     for (place, write) in writes.iter().enumerate() {
         if compare(key, write.key.as_slice()).is_le() {

@@ -17,14 +17,14 @@ use Rattle.client_core.specs.Plans.{AreDistinct, IsPlan, IsSchedule, ops_in}
 use Rattle.client_core.specs.declared.plan.Plan.{Plan}
 use Rattle.client_core.specs.declared.plan.Schedule.{Schedule}
 use Rattle.client_core.specs.declared.plan.Script.{Script}
-use Rattle.run_record.specs.Right.{IsRight, conflicts_in, summary_of}
+use Rattle.run_record.specs.Right.{IsRightRecord, conflicts_in, summary_of}
 use Rattle.run_record.specs.declared.run.Record.{Record}
 use Rattle.request_run.specs.Entries.{IsGrowth, entries_of}
 use Rattle.world_core.specs.Objects.{Done, IsStep, Objects, grown, no_histories}
 use Rattle.run_record.specs.Sound.{IsSoundJournal}
-use Rattle.request_run.specs.Sound.{IsOpen}
-use Rattle.seat_turns.specs.Seats.{AreSeated, HaveEnded, receipts_in, scripts_of, seats_of}
-use Rattle.world_core.specs.World.{IsWorld, WorldView, plan_of}
+use Rattle.request_run.specs.Sound.{IsStoreOpening}
+use Rattle.seat_turns.specs.Seats.{AreSeated, HaveEnded, receipts_in, scripts_of_seats, seats_of}
+use Rattle.world_core.specs.World.{IsWorld, WorldView, plan_of_world}
 use Rattle.seat_turns.specs.declared.seats.Seat.{Seat}
 use Rattle.run_record.proofs.Counting.{few_conflicts}
 use Rattle.world_core.proofs.Righting.{all_sections, right_record}
@@ -33,14 +33,14 @@ use Rattle.seat_turns.proofs.Seating.{scripts_new, seat_there, seated_new}
 
 -- ---- the plan
 
-length_scripts : (seats : List Seat) → length (scripts_of seats) ≡ length seats
+length_scripts : (seats : List Seat) → length (scripts_of_seats seats) ≡ length seats
 length_scripts seats = length-map seats (λ (seat : Seat). seat.client.script)
 
 -- worlds of one plan have as many clients
-pub same_seats : (v w : WorldView) → plan_of v ≡ plan_of w → length v.seats ≡ length w.seats
+pub same_seats : (v w : WorldView) → plan_of_world v ≡ plan_of_world w → length v.seats ≡ length w.seats
 same_seats v w same = sym (length_scripts v.seats) ∙ (ap (λ (plan : Plan). length plan.clients) same ∙ length_scripts w.seats)
 
-pub same_schedule : (v w : WorldView) → plan_of v ≡ plan_of w → v.schedule ≡ w.schedule
+pub same_schedule : (v w : WorldView) → plan_of_world v ≡ plan_of_world w → v.schedule ≡ w.schedule
 same_schedule v w same = ap (λ (plan : Plan). plan.schedule) same
 
 -- ---- a turn that went on
@@ -62,7 +62,7 @@ not_ended seats i k x ended same l is told false_is seat at =
 
 pub world_went : (C : Settings) (attempts : ℕ) (store after : Store MetaEntry) (nodes : List (List Done)) (seats later : List Seat) (schedule : Schedule) (failed : Bool)
     → IsWorld (record { config = C; attempts = attempts; objects = record { store = store; nodes = nodes }; seats = seats; schedule = schedule; failed = failed })
-    → scripts_of later ≡ scripts_of seats → after.config ≡ store.config → IsOpen after → AreSeated C attempts (entries_of after.journal) later
+    → scripts_of_seats later ≡ scripts_of_seats seats → after.config ≡ store.config → IsStoreOpening after → AreSeated C attempts (entries_of after.journal) later
     → IsWorld (record { config = C; attempts = attempts; objects = record { store = after; nodes = nodes }; seats = later; schedule = schedule; failed = false })
 world_went C attempts store after nodes seats later schedule failed w scripts config opened seated =
     let old : WorldView = record { config = C; attempts = attempts; objects = record { store = store; nodes = nodes }; seats = seats; schedule = schedule; failed = failed } in
@@ -80,18 +80,18 @@ world_went C attempts store after nodes seats later schedule failed w scripts co
       seated = λ alive. seated;
     }
 
-pub store_open : (C : Settings) (rows : List Row) (store : Store MetaEntry) → rows ≡ opening_bytes C → HasTree C rows (new_tree C) → store ≡ record { config = C; opening = rows; journal = [] } → IsOpen store
+pub store_open : (C : Settings) (rows : List Row) (store : Store MetaEntry) → rows ≡ opening_bytes C → HasTree C rows (new_tree C) → store ≡ record { config = C; opening = rows; journal = [] } → IsStoreOpening store
 store_open C rows store value tree is =
-    subst (λ (s : Store MetaEntry). IsOpen s) (sym is) (record { opening = value; tree = subst (λ (r : List Row). HasTree C r (new_tree C)) value tree })
+    subst (λ (s : Store MetaEntry). IsStoreOpening s) (sym is) (record { opening = value; tree = subst (λ (r : List Row). HasTree C r (new_tree C)) value tree })
 
 module _ (plan : Plan) (store : Store MetaEntry) (seats : List Seat) (are : seats ≡ seats_of plan.config plan.clients) where
-  scripts_same : scripts_of seats ≡ plan.clients
-  scripts_same = ap (λ (ss : List Seat). scripts_of ss) are ∙ scripts_new plan.config plan.clients
+  scripts_same : scripts_of_seats seats ≡ plan.clients
+  scripts_same = ap (λ (ss : List Seat). scripts_of_seats ss) are ∙ scripts_new plan.config plan.clients
 
-  pub plan_new : plan_of (record { config = plan.config; attempts = plan.attempts; objects = record { store = store; nodes = no_histories plan.config.nodes }; seats = seats; schedule = plan.schedule; failed = false }) ≡ plan
+  pub plan_new : plan_of_world (record { config = plan.config; attempts = plan.attempts; objects = record { store = store; nodes = no_histories plan.config.nodes }; seats = seats; schedule = plan.schedule; failed = false }) ≡ plan
   plan_new = ap (λ (ss : List Script). record { config = plan.config; attempts = plan.attempts; clients = ss; schedule = plan.schedule }) scripts_same
 
-  pub world_new : IsPlan plan → store.config ≡ plan.config → store.journal ≡ [] → IsOpen store
+  pub world_new : IsPlan plan → store.config ≡ plan.config → store.journal ≡ [] → IsStoreOpening store
       → IsWorld (record { config = plan.config; attempts = plan.attempts; objects = record { store = store; nodes = no_histories plan.config.nodes }; seats = seats; schedule = plan.schedule; failed = false })
   world_new h config none opened =
       let count : length plan.clients ≡ length seats = sym (ap (λ (ss : List Script). length ss) scripts_same) ∙ length_scripts seats in
@@ -114,15 +114,15 @@ module _ (plan : Plan) (store : Store MetaEntry) (seats : List Seat) (are : seat
 pub few_kept : (w : WorldView) → IsWorld w → w.failed ≡ false → HaveEnded w.seats → length w.objects.store.journal ≤ 200000 → conflicts_in (receipts_in w.seats) < 2 ^ 64
 few_kept w h alive ended short =
     let journal : List Entry = entries_of w.objects.store.journal in
-    few_conflicts w.config w.attempts journal (scripts_of w.seats) (receipts_in w.seats)
+    few_conflicts w.config w.attempts journal (scripts_of_seats w.seats) (receipts_in w.seats)
     (all_sections w.config w.attempts journal w.seats (h.seated alive) ended)
     (subst (λ (n : ℕ). n ≤ 200000) (sym (length_entries w.objects.store.journal)) short)
     h.short
 
 pub right_run : (w : WorldView) (r : Result Record Memory) → IsWorld w → w.failed ≡ false → HaveEnded w.seats → IsSoundJournal w.objects.store.config (entries_of w.objects.store.journal)
-    → IfOk r (λ run. run.config ≡ w.config) → IfOk r (λ run. run.clients ≡ map (λ (script : Script). script.id) (scripts_of w.seats)) → IfOk r (λ run. run.receipts ≡ receipts_in w.seats)
+    → IfOk r (λ run. run.config ≡ w.config) → IfOk r (λ run. run.clients ≡ map (λ (script : Script). script.id) (scripts_of_seats w.seats)) → IfOk r (λ run. run.receipts ≡ receipts_in w.seats)
     → IfOk r (λ run. run.entries ≡ entries_of w.objects.store.journal) → IfOk r (λ run. run.summary ≡ summary_of w.config run.clients run.receipts run.entries)
-    → IfOk r (λ run. IsRight (plan_of w) run)
+    → IfOk r (λ run. IsRightRecord (plan_of_world w) run)
 right_run w (Ok run) h alive ended sound config clients receipts entries summary =
     right_record w run (subst (λ (C : Settings). IsSoundJournal C (entries_of w.objects.store.journal)) h.config sound) h.distinct (h.seated alive) ended config clients receipts entries summary
 right_run w (Err e) h alive ended sound config clients receipts entries summary = tt

@@ -6,20 +6,20 @@ use Rattle.client_core.specs.declared.plan.Plan.{Plan}
 use Rattle.run_record.specs.declared.run.Record.{Record}
 use Rattle.request_run.specs.Entries.{entries_of}
 use Rattle.run_record.proofs.History.{at_there}
-use Rattle.seat_turns.specs.Left.{GoesOn, Stays}
+use Rattle.seat_turns.specs.Left.{SeatsGoOn, Stays}
 use Rattle.seat_turns.specs.Seats.{receipts_in}
 use Rattle.seat_turns.specs.declared.seats.Seat.{Seat}
 use Rattle.seat_turns.proofs.Ahead.{AreAheadTo, ahead_idle, ahead_went}
-use Rattle.world_core.specs.Order.{AreItems, IsItem, IsKept, IsRoundTo}
-use Rattle.world_core.specs.World.{AreTurns, IsOperation, IsOpTurn, IsTurn, WorldView, plan_of}
+use Rattle.world_core.specs.Order.{AreItems, IsItem, IsWorldRecord, IsRoundTo}
+use Rattle.world_core.specs.World.{AreTurns, IsOperation, IsOpTurn, IsTurn, WorldView, plan_of_world}
 use Rattle.world_core.specs.declared.world.Turn.{Turn}
 use Rattle.world_core.specs.declared.world.Turn.TheVariants as turns
 
 -- ---- turns of one operation
 
 -- a turn, whatever it did
-pub turn_goes : (old new : WorldView) (k : ℕ) (turn : Turn) → IsTurn old new k turn → GoesOn old.seats new.seats k
-turn_goes old new k turns.Idle h = subst (λ (w : WorldView). GoesOn old.seats w.seats k) (sym h.1) (record { others = λ j apart. refl; own = λ before after at_before at_after. inl (ap (λ (s : Seat). s.client.op) (same_Some after before (sym at_after ∙ at_before))) })
+pub turn_goes : (old new : WorldView) (k : ℕ) (turn : Turn) → IsTurn old new k turn → SeatsGoOn old.seats new.seats k
+turn_goes old new k turns.Idle h = subst (λ (w : WorldView). SeatsGoOn old.seats w.seats k) (sym h.1) (record { others = λ j apart. refl; own = λ before after at_before at_after. inl (ap (λ (s : Seat). s.client.op) (same_Some after before (sym at_after ∙ at_before))) })
 turn_goes old new k turns.Went h = h.seats
 
 -- one turn more, where it went on
@@ -42,7 +42,7 @@ operation old mid new k turns.Idle from within none so_far h more =
 pub item_listed : (old new : WorldView) (items : List ℕ) (place item : ℕ) → slice_get items place ≡ Some item → IsItem old new item → (listed : ℕ) → slice_get items place ≡ Some listed → IsItem old new listed
 item_listed old new items place item at h listed is = subst (IsItem old new) (same_Some item listed (sym at ∙ is)) h
 
-pub kept_of : {E : Type 0} (w : WorldView) (r : Result Record E) → IfOk r (λ run. run.receipts ≡ receipts_in w.seats) → IfOk r (λ run. run.entries ≡ entries_of w.objects.store.journal) → IfOk r (IsKept w)
+pub kept_of : {E : Type 0} (w : WorldView) (r : Result Record E) → IfOk r (λ run. run.receipts ≡ receipts_in w.seats) → IfOk r (λ run. run.entries ≡ entries_of w.objects.store.journal) → IfOk r (IsWorldRecord w)
 kept_of w (Ok run) receipts entries = record { receipts = receipts; entries = entries }
 kept_of w (Err e) receipts entries = tt
 
@@ -58,6 +58,6 @@ pub round_on : (old mid new : WorldView) (client : ℕ) (turn : Turn) → IsRoun
 round_on old mid new client turn so_far h = subst (IsRoundTo old new) (plus_one client) (mid, so_far, (turn, h))
 
 -- a whole operation, whatever it did
-pub op_ahead : (rounds c : ℕ) (old new : WorldView) (turn : Turn) → c < length old.seats → plan_of new ≡ plan_of old → IsOpTurn old new c turn → AreAheadTo rounds c old.seats → AreAheadTo rounds (c + 1) new.seats
+pub op_ahead : (rounds c : ℕ) (old new : WorldView) (turn : Turn) → c < length old.seats → plan_of_world new ≡ plan_of_world old → IsOpTurn old new c turn → AreAheadTo rounds c old.seats → AreAheadTo rounds (c + 1) new.seats
 op_ahead rounds c old new turns.Idle l same h ahead = subst (λ (w : WorldView). AreAheadTo rounds (c + 1) w.seats) (sym h.1) (ahead_idle rounds c old.seats h.0 ahead)
 op_ahead rounds c old new turns.Went l same h ahead = ahead_went rounds c old.seats new.seats l (ap (λ (p : Plan). p.clients) same) h.1 ahead

@@ -19,7 +19,7 @@ use Rattle.client_core.specs.Scripts.{scripts_in}
 use Rattle.client_core.specs.declared.plan.Script.{Script}
 use Rattle.run_record.specs.Legal.{EntryAt, journal_rows, tree_at}
 use Rattle.run_record.specs.Receipts.{AreReceipts, IsReceipt, IsSection}
-use Rattle.run_record.specs.Right.{AreSections, IsRight, IsRightEntry, names_place, summary_of}
+use Rattle.run_record.specs.Right.{AreSections, IsRightRecord, IsRightEntry, names_place, summary_of}
 use Rattle.run_record.specs.declared.run.Listed.{Listed}
 use Rattle.run_record.specs.declared.run.Record.{Record}
 use Rattle.client_core.proofs.Courses.{numbered}
@@ -30,8 +30,8 @@ use Rattle.request_run.specs.Served.{AreCovered}
 use Rattle.seat_turns.specs.Kept.{HasReceipt, IsSeat}
 use Rattle.request_run.specs.Entries.{entries_of}
 use Rattle.run_record.specs.Sound.{IsSoundJournal}
-use Rattle.seat_turns.specs.Seats.{AreSeated, HaveEnded, receipts_in, scripts_of}
-use Rattle.world_core.specs.World.{WorldView, plan_of}
+use Rattle.seat_turns.specs.Seats.{AreSeated, HaveEnded, receipts_in, scripts_of_seats}
+use Rattle.world_core.specs.World.{WorldView, plan_of_world}
 use Rattle.seat_turns.specs.declared.seats.Seat.{Seat}
 use Rattle.request_run.proofs.Covered.{all_touched}
 use Rattle.request_run.proofs.Ending.{no_refusal}
@@ -75,7 +75,7 @@ section C attempts journal k seat h ended =
 
 sections : (C : Settings) (attempts : ℕ) (journal : List Entry) (seats : List Seat) (base : ℕ)
     → ((k : ℕ) (seat : Seat) → slice_get seats k ≡ Some seat → IsSeat C attempts journal (base + k) seat × (has_ended seat.client ≡ true))
-    → AreSections C attempts journal base (scripts_of seats) (receipts_in seats)
+    → AreSections C attempts journal base (scripts_of_seats seats) (receipts_in seats)
 sections C attempts journal [] base each = refl
 sections C attempts journal (seat ∷ seats) base each =
     let first : IsSeat C attempts journal (base + 0) seat × (has_ended seat.client ≡ true) = each 0 seat refl in
@@ -92,7 +92,7 @@ sections C attempts journal (seat ∷ seats) base each =
 
 pub all_sections : (C : Settings) (attempts : ℕ) (journal : List Entry) (seats : List Seat)
     → AreSeated C attempts journal seats → HaveEnded seats
-    → AreSections C attempts journal 0 (scripts_of seats) (receipts_in seats)
+    → AreSections C attempts journal 0 (scripts_of_seats seats) (receipts_in seats)
 all_sections C attempts journal seats seated ended =
     sections C attempts journal seats 0
     (λ k z at. (subst (λ n. IsSeat C attempts journal n z) (sym (zero-add k)) (seated.all k z at), ended k z at))
@@ -168,7 +168,7 @@ one_in place (seat ∷ seats) (suc k) x at one none =
     let both : naming place (seat.receipts ++ receipts_in seats) ≡ naming place seat.receipts + naming place (receipts_in seats) = naming_both place seat.receipts (receipts_in seats) in
     omega arith
 
-pub named_once : (C : Settings) (attempts : ℕ) (journal : List Entry) (seats : List Seat) → AreDistinct (scripts_of seats) → AreSeated C attempts journal seats → HaveEnded seats → (place : ℕ) → place < length journal → count_by (names_place place) (receipts_in seats) ≡ 1
+pub named_once : (C : Settings) (attempts : ℕ) (journal : List Entry) (seats : List Seat) → AreDistinct (scripts_of_seats seats) → AreSeated C attempts journal seats → HaveEnded seats → (place : ℕ) → place < length journal → count_by (names_place place) (receipts_in seats) ≡ 1
 named_once C attempts journal seats distinct seated ended place l =
     let here : (e : Entry) × EntryAt journal place e = at_there journal place l in
     owned here.0 here.1 (seated.owned place here.0 here.1)
@@ -188,17 +188,17 @@ named_once C attempts journal seats distinct seated ended place l =
 
 -- ---- the record
 
-pub right_record : (w : WorldView) (run : Record) → IsSoundJournal w.config (entries_of w.objects.store.journal) → AreDistinct (scripts_of w.seats) → AreSeated w.config w.attempts (entries_of w.objects.store.journal) w.seats → HaveEnded w.seats
-    → run.config ≡ w.config → run.clients ≡ map (λ (script : Script). script.id) (scripts_of w.seats) → run.receipts ≡ receipts_in w.seats → run.entries ≡ entries_of w.objects.store.journal → run.summary ≡ summary_of w.config run.clients run.receipts run.entries
-    → IsRight (plan_of w) run
+pub right_record : (w : WorldView) (run : Record) → IsSoundJournal w.config (entries_of w.objects.store.journal) → AreDistinct (scripts_of_seats w.seats) → AreSeated w.config w.attempts (entries_of w.objects.store.journal) w.seats → HaveEnded w.seats
+    → run.config ≡ w.config → run.clients ≡ map (λ (script : Script). script.id) (scripts_of_seats w.seats) → run.receipts ≡ receipts_in w.seats → run.entries ≡ entries_of w.objects.store.journal → run.summary ≡ summary_of w.config run.clients run.receipts run.entries
+    → IsRightRecord (plan_of_world w) run
 right_record w run s distinct seated ended config clients receipts entries summary =
     let C : Settings = w.config in
     let journal : List Entry = entries_of w.objects.store.journal in
-    let all : scripts_in (plan_of w) ≡ scripts_of w.seats = scripts_are (plan_of w) in
-    let ids : List ClientId = map (λ (script : Script). script.id) (scripts_of w.seats) in
+    let all : scripts_in (plan_of_world w) ≡ scripts_of_seats w.seats = scripts_are (plan_of_world w) in
+    let ids : List ClientId = map (λ (script : Script). script.id) (scripts_of_seats w.seats) in
     let is : run ≡ record run { config = C; clients = ids; receipts = receipts_in w.seats; entries = journal } =
     λ i. record run { config = config i; clients = clients i; receipts = receipts i; entries = entries i } in
-    subst (IsRight (plan_of w)) (sym is)
+    subst (IsRightRecord (plan_of_world w)) (sym is)
     (record {
       config = refl;
       clients = ap (λ (ss : List Script). map (λ (script : Script). script.id) ss) (sym all);

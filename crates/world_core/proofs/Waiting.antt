@@ -19,10 +19,11 @@ use Rattle.run_record.proofs.History.{entry_sound, rows_ascend, rows_tree}
 use Rattle.request_run.proofs.Rows.{length_entries}
 use Rattle.request_run.specs.Entries.{entries_of}
 use Rattle.run_record.specs.Sound.{IsSoundJournal}
-use Rattle.request_run.specs.Sound.{IsOpen}
+use Rattle.request_run.specs.Sound.{IsStoreOpening}
 
 -- a page of more than there are entries has them all
-pub page_waits : (store : Store MetaEntry) (front limit : ℕ) (l h : List ℕ) (rows : List Row) → IsOpen store
+pub page_waits : (store : Store MetaEntry) (front limit : ℕ) (l h : List ℕ) (rows : List Row)
+    → IsStoreOpening store
     → IsSoundJournal store.config (entries_of store.journal) → length store.journal ≤ 200000 → 200000 ≤ limit
     → front ≡ length store.journal → l ≡ all_doomed → h ≡ raised all_doomed
     → rows ≡ rows_between (rows_at (λ (m : MetaEntry). m.entry.writes) store.opening store.journal front) l h limit

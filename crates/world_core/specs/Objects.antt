@@ -4,7 +4,7 @@ use Rattle.fs_base.specs.declared.ids.ClientId.{ClientId}
 use Rattle.kv_store.specs.Store.{Store}
 use Rattle.meta_task.specs.declared.entry.MetaEntry.{MetaEntry}
 use Rattle.txn_task.specs.declared.messages.Entry.{Entry}
-use Rattle.request_run.specs.Entries.{with_entry}
+use Rattle.request_run.specs.Entries.{store_with_entry}
 
 -- what a storage node has done: nothing yet that it could do
 abbrev pub Done : Type 0
@@ -23,7 +23,7 @@ no_histories count = replicate count []
 
 -- the store has one entry more
 abbrev pub grown : Objects → Entry → Objects
-grown objects entry = record objects { store = with_entry objects.store entry }
+grown objects entry = record objects { store = store_with_entry objects.store entry }
 
 -- one turn of a client: nothing has changed, or one object grew, by one; the store by an entry of that client
 abbrev pub IsStep : Objects → Objects → ClientId → Type 0

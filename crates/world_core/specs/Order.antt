@@ -4,7 +4,7 @@ use Rattle.run_record.specs.declared.run.Record.{Record}
 use Rattle.request_run.specs.Entries.{entries_of}
 use Rattle.seat_turns.specs.Left.{has_left}
 use Rattle.seat_turns.specs.Seats.{receipts_in}
-use Rattle.world_core.specs.World.{IsOpTurn, IsTurn, WorldView, items_of}
+use Rattle.world_core.specs.World.{IsOpTurn, IsTurn, WorldView, schedule_items}
 use Rattle.world_core.specs.declared.world.Turn.{Turn}
 
 -- ---- the schedule
@@ -45,12 +45,12 @@ AreRounds old new (suc rounds) =
 -- all items of the schedule, and then rounds until no client has anything left
 pub record IsOrdered (old new : WorldView) : Type 0 where
   pub mid : WorldView
-  pub items : AreItems (items_of old.schedule) old mid (length (items_of old.schedule))
+  pub items : AreItems (schedule_items old.schedule) old mid (length (schedule_items old.schedule))
   pub count : ℕ
   pub rounds : AreRounds mid new count
   pub none : has_left new.seats ≡ false
 
 -- what was kept of the world
-pub record IsKept (w : WorldView) (run : Record) : Type 0 where
+pub record IsWorldRecord (w : WorldView) (run : Record) : Type 0 where
   pub receipts : run.receipts ≡ receipts_in w.seats
   pub entries : run.entries ≡ entries_of w.objects.store.journal

@@ -8,10 +8,10 @@ use Rattle.client_core.specs.declared.plan.Plan.{Plan}
 use Rattle.client_core.specs.declared.plan.Schedule.{Schedule}
 use Rattle.client_core.specs.declared.plan.Schedule.TheVariants.{Items}
 use Rattle.request_run.specs.Entries.{entries_of}
-use Rattle.request_run.specs.Sound.{IsOpen}
+use Rattle.request_run.specs.Sound.{IsStoreOpening}
 use Rattle.seat_turns.specs.Events.{IsEvent}
-use Rattle.seat_turns.specs.Left.{EndsOne, GoesOn, Stays}
-use Rattle.seat_turns.specs.Seats.{AreSeated, scripts_of, seats_of}
+use Rattle.seat_turns.specs.Left.{EndsOne, SeatsGoOn, Stays}
+use Rattle.seat_turns.specs.Seats.{AreSeated, scripts_of_seats, seats_of}
 use Rattle.seat_turns.specs.declared.seats.Seat.{Seat}
 use Rattle.world_core.specs.Objects.{IsStep, Objects}
 use Rattle.world_core.specs.declared.world.Turn.{Turn}
@@ -27,25 +27,30 @@ pub record WorldView : Type 0 where
   pub failed : Bool
 
 -- the plan whose run this is
-abbrev pub plan_of : WorldView → Plan
-plan_of w =
-    record { config = w.config; attempts = w.attempts; clients = scripts_of w.seats; schedule = w.schedule }
+abbrev pub plan_of_world : WorldView → Plan
+plan_of_world w =
+    record {
+      config = w.config;
+      attempts = w.attempts;
+      clients = scripts_of_seats w.seats;
+      schedule = w.schedule;
+    }
 
 -- What every world keeps; where memory was wanting nothing is said of its clients.
 pub record IsWorld (w : WorldView) : Type 0 where
   pub config : w.objects.store.config ≡ w.config
-  pub opened : IsOpen w.objects.store
+  pub opened : IsStoreOpening w.objects.store
   pub attempts_from : 1 ≤ w.attempts
   pub attempts_to : w.attempts ≤ ATTEMPTS
-  pub distinct : AreDistinct (scripts_of w.seats)
+  pub distinct : AreDistinct (scripts_of_seats w.seats)
   pub few : length w.seats ≤ CLIENTS
-  pub short : ops_in (scripts_of w.seats) ≤ OPERATIONS
+  pub short : ops_in (scripts_of_seats w.seats) ≤ OPERATIONS
   pub schedule : IsSchedule (length w.seats) w.schedule
   pub seated : w.failed ≡ false → AreSeated w.config w.attempts (entries_of w.objects.store.journal) w.seats
 
 -- a world of this plan in which nothing has happened yet
 pub record IsOpening (plan : Plan) (w : WorldView) : Type 0 where
-  pub plan_is : plan_of w ≡ plan
+  pub plan_is : plan_of_world w ≡ plan
   pub seats : w.seats ≡ seats_of plan.config plan.clients
   pub none : w.objects.store.journal ≡ []
 
@@ -67,9 +72,9 @@ HasEvent old new client =
 pub record HasGone (old new : WorldView) (client : ℕ) : Type 0 where
   pub within : client < length old.seats
   pub left : HasEnded old client false
-  pub seats : GoesOn old.seats new.seats client
+  pub seats : SeatsGoOn old.seats new.seats client
   pub event : HasEvent old new client
-  pub same_plan : plan_of new ≡ plan_of old
+  pub same_plan : plan_of_world new ≡ plan_of_world old
   pub objects : (seat : Seat) → slice_get old.seats client ≡ Some seat
       → IsStep old.objects new.objects seat.client.script.id
   pub was_alive : old.failed ≡ false
@@ -100,5 +105,5 @@ IsOpTurn old new client turns.Idle = HasEnded old client true × (new ≡ old)
 IsOpTurn old new client turns.Went =
     HasEnded old client false × EndsOne old.seats new.seats client × IsOperation old new client
 
-abbrev pub items_of : Schedule → List ℕ
-items_of (Items items) = items
+abbrev pub schedule_items : Schedule → List ℕ
+schedule_items (Items items) = items

@@ -3,8 +3,8 @@
 ghost use Rattle.std.specs.Prelude.{◌≡◌, ◌<◌, ◌++◌, ◌^◌, map, IfOk, OnOk};
 ghost use Rattle.run_record.specs.Right.{conflicts_in, summary_of, waiting_in};
 ghost use Rattle.request_run.specs.Entries.{entries_of};
-ghost use Rattle.request_run.specs.Sound.{IsOpen};
-ghost use Rattle.seat_turns.specs.Seats.{receipts_in, scripts_of};
+ghost use Rattle.request_run.specs.Sound.{IsStoreOpening};
+ghost use Rattle.seat_turns.specs.Seats.{receipts_in, scripts_of_seats};
 
 use fs_base::{ClientId, Config, Items, Memory};
 use kv_store::KvState;
@@ -16,7 +16,7 @@ use std::alloc::Global;
 use txn_task::Entry;
 
 fn ids(alloc: Global, seats: &[Seat]) -> Result<Items<ClientId>, Memory>
-    ensures { IfOk result (λ ids. ids ≡ map (λ script. script.id) (scripts_of seats.now)) }
+    ensures { IfOk result (λ ids. ids ≡ map (λ script. script.id) (scripts_of_seats seats.now)) }
 {
     let mut ids = Items::new(alloc);
     for seat in seats {
@@ -68,7 +68,7 @@ fn entries(alloc: Global, journal: Items<MetaEntry>) -> Result<Items<Entry>, Mem
 /// How many files are being deleted, once all entries are made: no more than there are entries, so one page
 /// has their rows.
 fn waiting_in(store: &KvState<MetaEntry>) -> Result<u64, Memory>
-    requires { IsOpen store.now }
+    requires { IsStoreOpening store.now }
     ensures { IfOk result (λ waiting. waiting ≡ waiting_in store.now.config (entries_of store.now.journal)) }
 {
     sound_store(store);
@@ -86,10 +86,11 @@ pub(crate) fn record_of(
     seats: Vec<Seat>,
 ) -> Result<Record, Memory>
     requires few { conflicts_in (receipts_in seats.items) < 2 ^ 64 }
-    requires open { IsOpen store }
+    requires open { IsStoreOpening store }
     requires config { store.config ≡ config }
     ensures config { IfOk result (λ run. run.config ≡ config) }
-    ensures clients { IfOk result (λ run. run.clients ≡ map (λ script. script.id) (scripts_of seats.items)) }
+    ensures clients { IfOk result
+        (λ run. run.clients ≡ map (λ script. script.id) (scripts_of_seats seats.items)) }
     ensures receipts { IfOk result (λ run. run.receipts ≡ receipts_in seats.items) }
     ensures entries { IfOk result (λ run. run.entries ≡ entries_of store.journal) }
     ensures summary { IfOk result (λ run. run.summary ≡ summary_of config run.clients run.receipts run.entries) }

@@ -1,13 +1,14 @@
 ghost use Rattle.std.specs.Prelude.{◌≡◌, ◌<◌, ◌+◌, ℕ, [], Some, true, false, length, slice_get, IfOk, OnOk, OnErr};
 ghost use Rattle.client_core.specs.Client.{has_ended};
 ghost use Rattle.client_core.specs.Plans.{IsPlan, IsSchedule, NamesClient};
-ghost use Rattle.run_record.specs.Right.{IsRight};
+ghost use Rattle.run_record.specs.Right.{IsRightRecord};
 ghost use Rattle.world_core.specs.Objects.{IsStep};
-ghost use Rattle.request_run.specs.Sound.{IsOpen};
-ghost use Rattle.seat_turns.specs.Left.{AreAhead, EndsOne, has_left};
-ghost use Rattle.world_core.specs.Order.{AreItems, AreRounds, IsItem, IsKept, IsOrdered, IsRound};
+ghost use Rattle.request_run.specs.Sound.{IsStoreOpening};
+ghost use Rattle.seat_turns.specs.Left.{AreSeatsAhead, EndsOne, has_left};
+ghost use Rattle.world_core.specs.Order.{AreItems, AreRounds, IsItem, IsWorldRecord, IsOrdered, IsRound};
 ghost use Rattle.seat_turns.specs.Seats.{seats_of};
-ghost use Rattle.world_core.specs.World.{IsOperation, IsOpTurn, IsTurn, WorldView, items_of, plan_of};
+ghost use Rattle.world_core.specs.World.{IsOperation, IsOpTurn, IsTurn, WorldView, schedule_items};
+ghost use Rattle.world_core.specs.World.{plan_of_world};
 ghost use Rattle.seat_turns.specs.declared.seats.Seat.{Seat as SeatView};
 
 use crate::record::record_of;
@@ -79,14 +80,14 @@ impl Model for World {
 fn new_store(alloc: Global, config: &Config) -> Result<KvState<MetaEntry>, Memory>
     ensures config { IfOk result (λ store. store.config ≡ config.now) }
     ensures none { IfOk result (λ store. store.journal ≡ []) }
-    ensures begun { IfOk result (λ store. IsOpen store) }
+    ensures begun { IfOk result (λ store. IsStoreOpening store) }
 {
     let rows = opening_rows(alloc, config)?;
     KvState::new(alloc, config, rows)
 }
 
 fn items_in(schedule: &Schedule) -> usize
-    ensures { result ≡ length (items_of schedule.now) }
+    ensures { result ≡ length (schedule_items schedule.now) }
 {
     match schedule {
         Schedule::Items(items) => items.len(),
@@ -94,8 +95,8 @@ fn items_in(schedule: &Schedule) -> usize
 }
 
 fn item_at(schedule: &Schedule, place: usize) -> u16
-    requires { place < length (items_of schedule.now) }
-    ensures value { slice_get (items_of schedule.now) place ≡ Some result }
+    requires { place < length (schedule_items schedule.now) }
+    ensures value { slice_get (schedule_items schedule.now) place ≡ Some result }
     ensures named { (count : ℕ) → IsSchedule count schedule.now → NamesClient count result }
 {
     match schedule {
@@ -107,7 +108,7 @@ impl World {
     /// A world in which nothing has happened yet.
     pub fn new(alloc: Global, plan: Plan) -> Result<World, Memory>
         requires { IsPlan plan }
-        ensures plan { IfOk result (λ world. plan_of world ≡ plan) }
+        ensures plan { IfOk result (λ world. plan_of_world world ≡ plan) }
         ensures seats { IfOk result (λ world. world.seats ≡ seats_of plan.config plan.clients) }
         ensures none { IfOk result (λ world. world.objects.store.journal ≡ []) }
         ensures alive { IfOk result (λ world. world.failed ≡ false) }
@@ -142,7 +143,7 @@ impl World {
         ensures turn { IfOk result (λ turn. IsTurn self.old self.new client turn) }
         ensures step { (seat : SeatView) → slice_get self.old.seats client ≡ Some seat
             → IsStep self.old.objects self.new.objects seat.client.script.id }
-        ensures plan { plan_of self.new ≡ plan_of self.old }
+        ensures plan { plan_of_world self.new ≡ plan_of_world self.old }
         ensures before { OnOk result (self.old.failed ≡ false) }
         ensures alive { OnOk result (self.new.failed ≡ false) }
         ensures err { OnErr result (self.new.failed ≡ true) }
@@ -171,7 +172,7 @@ impl World {
     pub fn op(&mut self, client: u16) -> Result<Turn, Memory>
         requires { client < length self.old.seats }
         ensures turn { IfOk result (λ turn. IsOpTurn self.old self.new client turn) }
-        ensures plan { plan_of self.new ≡ plan_of self.old }
+        ensures plan { plan_of_world self.new ≡ plan_of_world self.old }
         ensures before { OnOk result (self.old.failed ≡ false) }
         ensures alive { OnOk result (self.new.failed ≡ false) }
         ensures err { OnErr result (self.new.failed ≡ true) }
@@ -190,7 +191,7 @@ impl World {
         requires { client < length self.old.seats }
         ensures ended { OnOk result
             (EndsOne self.old.seats self.new.seats client × IsOperation self.old self.new client) }
-        ensures plan { plan_of self.new ≡ plan_of self.old }
+        ensures plan { plan_of_world self.new ≡ plan_of_world self.old }
         ensures alive { OnOk result (self.new.failed ≡ false) }
         ensures err { OnErr result (self.new.failed ≡ true) }
     {
@@ -210,7 +211,7 @@ impl World {
     fn take_item(&mut self, item: u16) -> Result<(), Memory>
         requires { NamesClient (length self.old.seats) item }
         ensures item { OnOk result (IsItem self.old self.new item) }
-        ensures plan { plan_of self.new ≡ plan_of self.old }
+        ensures plan { plan_of_world self.new ≡ plan_of_world self.old }
     {
         if item < 100 {
             self.turn(item)?;
@@ -222,8 +223,9 @@ impl World {
 
     fn take_schedule(&mut self) -> Result<(), Memory>
         ensures items { OnOk result
-            (AreItems (items_of self.old.schedule) self.old self.new (length (items_of self.old.schedule))) }
-        ensures plan { plan_of self.new ≡ plan_of self.old }
+            (AreItems (schedule_items self.old.schedule) self.old self.new
+            (length (schedule_items self.old.schedule))) }
+        ensures plan { plan_of_world self.new ≡ plan_of_world self.old }
     {
         for place in 0..items_in(&self.schedule) {
             let item = item_at(&self.schedule, place);
@@ -234,10 +236,10 @@ impl World {
 
     /// A whole operation of each client that has one left.
     fn round(&mut self) -> Result<(), Memory>
-        ensures ahead { (rounds : ℕ) → AreAhead rounds self.old.seats
-            → OnOk result (AreAhead (rounds + 1) self.new.seats) }
+        ensures ahead { (rounds : ℕ) → AreSeatsAhead rounds self.old.seats
+            → OnOk result (AreSeatsAhead (rounds + 1) self.new.seats) }
         ensures round { OnOk result (IsRound self.old self.new) }
-        ensures plan { plan_of self.new ≡ plan_of self.old }
+        ensures plan { plan_of_world self.new ≡ plan_of_world self.old }
         ensures alive { self.old.failed ≡ false → OnOk result (self.new.failed ≡ false) }
     {
         for client in 0..self.seats.len() {
@@ -256,7 +258,7 @@ impl World {
     fn rounds(&mut self) -> Result<(), Memory>
         ensures left { OnOk result (has_left self.new.seats ≡ false) }
         ensures rounds { OnOk result ((count : ℕ) × AreRounds self.old self.new count) }
-        ensures plan { plan_of self.new ≡ plan_of self.old }
+        ensures plan { plan_of_world self.new ≡ plan_of_world self.old }
     {
         if self.failed {
             return Err(Memory);
@@ -274,7 +276,7 @@ impl World {
 
     /// Tells that clients which are so many operations ahead have nothing left. It does nothing.
     fn enough_rounds(&self)
-        requires ahead { AreAhead OPERATIONS self.now.seats }
+        requires ahead { AreSeatsAhead OPERATIONS self.now.seats }
         requires alive { self.now.failed ≡ false }
         ensures { has_left self.now.seats ≡ false }
     {
@@ -284,11 +286,12 @@ impl World {
     /// The plan's schedule, and then rounds until no client has anything left: in each, every client that has
     /// does one whole operation.
     ///
-    /// The order of turns is a clause beside `IsRight`, which holds for every order. No clause counts asks, turns
+    /// The order of turns is a clause beside `IsRightRecord`, which holds for every order. No clause counts asks, turns
     /// or rounds.
     pub fn run(mut self) -> Result<Record, Memory>
-        ensures right { IfOk result (λ run. IsRight (plan_of self) run) }
-        ensures order { IfOk result (λ run. (last : WorldView) × IsOrdered self last × IsKept last run) }
+        ensures right { IfOk result (λ run. IsRightRecord (plan_of_world self) run) }
+        ensures order { IfOk result
+            (λ run. (last : WorldView) × IsOrdered self last × IsWorldRecord last run) }
     {
         self.take_schedule()?;
         self.rounds()?;
@@ -298,8 +301,8 @@ impl World {
     /// What is kept of a run that has ended.
     fn into_record(self) -> Result<Record, Memory>
         requires { has_left self.seats ≡ false }
-        ensures right { IfOk result (λ run. IsRight (plan_of self) run) }
-        ensures kept { IfOk result (IsKept self) }
+        ensures right { IfOk result (λ run. IsRightRecord (plan_of_world self) run) }
+        ensures kept { IfOk result (IsWorldRecord self) }
     {
         if self.failed {
             return Err(Memory);

@@ -2,7 +2,7 @@ use Rattle.std.proofs.Common.{rules, ◌≡◌, ◌<◌, true, length, ap, sym, 
 use Rattle.std.specs.Prelude.{Contains}
 use Rattle.hist_board.specs.Rule.{handed, seen_at}
 use Rattle.hist_board.specs.Calls.{view_of}
-use Rattle.board_tests.specs.Errands.{numbers_of, up_to}
+use Rattle.board_tests.specs.Errands.{numbers_of, numbers_below}
 use Rattle.board_tests.proofs.FirstErrands.{first_has, second_has}
 use Rattle.board_tests.proofs.Own.{both_held, both_seen}
 use Rattle.board_tests.proofs.threads.add_both.Goals as goal
@@ -59,8 +59,8 @@ returns-then-a-clause-own g c = λ all.
     let has_b : Contains (view_of b).errands 1 = search rules in
     let seen_0 = numbers_of 0 (seen_at (view_of a) 0) in
     let seen_1 = numbers_of 1 (seen_at (view_of b) 0) in
-    let own_a : c.join-first.result.0.1 ≡ true → seen_0 ≡ up_to 500 = search rules in
-    let own_b : c.join-first.result.1.1 ≡ true → seen_1 ≡ up_to 500 = search rules in
+    let own_a : c.join-first.result.0.1 ≡ true → seen_0 ≡ numbers_below 500 = search rules in
+    let own_b : c.join-first.result.1.1 ≡ true → seen_1 ≡ numbers_below 500 = search rules in
     let v = view_of c.split-second.new.self in
     let v1 = view_of c.join.new.self in
     let v2 = view_of c.join-2.new.self in

@@ -1,8 +1,8 @@
 use Rattle.std.proofs.Common.{rules, ◌≡◌, Some, None}
 use Rattle.key_schema.specs.Keys.{spelled_key}
 use Rattle.key_schema.specs.declared.key.Key.TheVariants as keys
-use Rattle.row_records.specs.Rows.{alloc_of}
-use Rattle.txn_task.specs.Wanted.{IsReading}
+use Rattle.row_records.specs.Rows.{read_alloc}
+use Rattle.txn_task.specs.Wanted.{IsRowReading}
 use Rattle.txn_task.specs.Writes.{read_of}
 use Rattle.txn_task.proofs.TellLaws.{next_absent, next_never, next_there}
 use Rattle.txn_task.proofs.want.want_alloc.Goals as goal
@@ -15,11 +15,11 @@ returns-in-Some-None c =
 pub returns-in-None-2 : goal.returns-in-None-2
 returns-in-None-2 c =
     let kept : read_of c.args.txn.now.reads.keys (spelled_key (keys.Alloc c.args.server)) ≡ Some (Some c.in-Some-Some.bytes.now) = search rules in
-    let none : IsReading (alloc_of c.in-Some-Some.bytes.now) None = search rules in
+    let none : IsRowReading (read_alloc c.in-Some-Some.bytes.now) None = search rules in
     ((Some c.in-Some-Some.bytes.now, kept), next_never c.args.txn.now.reads c.args.server c.in-Some-Some.bytes.now kept none)
 
 pub returns : goal.returns
 returns c =
     let kept : read_of c.args.txn.now.reads.keys (spelled_key (keys.Alloc c.args.server)) ≡ Some (Some c.in-Some-Some.bytes.now) = search rules in
-    let row : IsReading (alloc_of c.in-Some-Some.bytes.now) (Some c.in-Some.row) = search rules in
+    let row : IsRowReading (read_alloc c.in-Some-Some.bytes.now) (Some c.in-Some.row) = search rules in
     ((Some c.in-Some-Some.bytes.now, kept), next_there c.args.txn.now.reads c.args.server c.in-Some-Some.bytes.now c.in-Some.row kept row)

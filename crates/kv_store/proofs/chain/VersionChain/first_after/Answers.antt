@@ -1,6 +1,6 @@
 use Rattle.std.proofs.Common.{◌≡◌, ◌∙◌, get_or, ap, sym, subst, arith}
 use Rattle.kv_store.specs.declared.chain.Version.{Version}
-use Rattle.kv_store.specs.Chains.{IsRising, AreOutside}
+use Rattle.kv_store.specs.Chains.{AreVersionsRising, AreOutside}
 use Rattle.kv_store.proofs.ChainLemmas.{outside_first, outside_all}
 use Rattle.kv_store.proofs.chain.VersionChain.first_after.Goals as goal
 
@@ -14,4 +14,4 @@ returns-clause-outside c =
     let here : c.index-versions-place.result.version ≡ (get_or c.as_slice-versions.result.now c.place_in-place.result c.index-versions-place.result).version = ap (λ (v : Version). v.version) c.index-versions-place.is in
     subst (AreOutside c.args.version c.min.result) (c.as_slice-versions.ensures.value ∙ c.self.view_is)
     (outside_first c.as_slice-versions.result.now c.args.version c.place_in-place.result c.min.result c.index-versions-place.result
-    (subst IsRising (sym c.as_slice-versions.ensures.value) c.self.invariant) c.place_in-place.ensures (omega arith) (sym c.index-versions-place.is) (omega arith))
+    (subst AreVersionsRising (sym c.as_slice-versions.ensures.value) c.self.invariant) c.place_in-place.ensures (omega arith) (sym c.index-versions-place.is) (omega arith))

@@ -1,5 +1,5 @@
 use Rattle.std.proofs.Common.{◌≡◌, ◌∙◌, ◌+◌, ◌∷◌, ◌++◌, [], sym, ap, subst, length, List, None, ◌<◌, true}
-use Rattle.conflict_sets.specs.Reads.{Agrees}
+use Rattle.conflict_sets.specs.Reads.{RowsAgree}
 use Rattle.kv_store.specs.Store.{Store}
 use Rattle.kv_store.specs.Journal.{rows_at, first_later, written_value}
 use Rattle.kv_store.specs.Chains.{AreBelow}
@@ -38,7 +38,7 @@ invariant_of-self-2 g c =
           c.args.snapshot c.args.entry true c.push_reserved.new.self.items
           c.self.invariant.kept
           (subst (λ (s : Store g.row.E.Denot). g.E.EntryLaw.sound s.config c.args.entry) (sym c.self.view_is) c.requires.sound)
-          (subst (λ (s : Store g.row.E.Denot). Agrees (rows_at writes_of s.opening s.journal c.args.snapshot) (reads_of c.args.entry)) (sym c.self.view_is) c.requires.agreed)
+          (subst (λ (s : Store g.row.E.Denot). RowsAgree (rows_at writes_of s.opening s.journal c.args.snapshot) (reads_of c.args.entry)) (sym c.self.view_is) c.requires.agreed)
           alone room next;
       chains_are = λ key.
           added key

@@ -1,6 +1,6 @@
 use Rattle.std.proofs.Common.{subst, sym}
 use Rattle.path_walk.specs.Owed.{HasStepped}
-use Rattle.meta_task.specs.Ops.{config_of, areas_of, effect_of}
+use Rattle.meta_task.specs.Ops.{op_config, op_areas, op_effect}
 use Rattle.op_attr.specs.Attr as attr
 use Rattle.op_create.specs.Create as create
 use Rattle.op_link.specs.Link as link
@@ -10,19 +10,19 @@ use Rattle.meta_task.proofs.op.OpTask.next.Goals as goal
 
 pub returns-in_ok-step-in-Attr-clause-step : goal.returns-in_ok-step-in-Attr-clause-step
 returns-in_ok-step-in-Attr-clause-step c =
-    subst (λ (o : OpTask). HasStepped (config_of o) (areas_of o) (attr.areas_of c.next.new.self) (effect_of o) (attr.effect_of c.next.new.self) c.args.txn.now c.next.new.txn c.in_ok-step-in-Attr.step) (sym c.in-Attr.is) c.in_ok-step-in-Attr.ensures.step
+    subst (λ (o : OpTask). HasStepped (op_config o) (op_areas o) (attr.attr_areas c.next.new.self) (op_effect o) (attr.attr_effect c.next.new.self) c.args.txn.now c.next.new.txn c.in_ok-step-in-Attr.step) (sym c.in-Attr.is) c.in_ok-step-in-Attr.ensures.step
 
 pub returns-in_ok-step-in-Create-clause-step : goal.returns-in_ok-step-in-Create-clause-step
 returns-in_ok-step-in-Create-clause-step c =
-    subst (λ (o : OpTask). HasStepped (config_of o) (areas_of o) (create.areas_of c.next-in-Create.new.self) (effect_of o) (create.effect_of c.next-in-Create.new.self) c.args.txn.now c.next-in-Create.new.txn c.in_ok-step-in-Create.step) (sym c.in-Create.is)
+    subst (λ (o : OpTask). HasStepped (op_config o) (op_areas o) (create.create_areas c.next-in-Create.new.self) (op_effect o) (create.create_effect c.next-in-Create.new.self) c.args.txn.now c.next-in-Create.new.txn c.in_ok-step-in-Create.step) (sym c.in-Create.is)
     c.in_ok-step-in-Create.ensures.step
 
 pub returns-in_ok-step-in-Link-clause-step : goal.returns-in_ok-step-in-Link-clause-step
 returns-in_ok-step-in-Link-clause-step c =
-    subst (λ (o : OpTask). HasStepped (config_of o) (areas_of o) (link.areas_of c.next-in-Link.new.self) (effect_of o) (link.effect_of c.next-in-Link.new.self) c.args.txn.now c.next-in-Link.new.txn c.in_ok-step-in-Link.step) (sym c.in-Link.is)
+    subst (λ (o : OpTask). HasStepped (op_config o) (op_areas o) (link.link_areas c.next-in-Link.new.self) (op_effect o) (link.link_effect c.next-in-Link.new.self) c.args.txn.now c.next-in-Link.new.txn c.in_ok-step-in-Link.step) (sym c.in-Link.is)
     c.in_ok-step-in-Link.ensures.step
 
 pub returns-in_ok-step-in-Rename-clause-step : goal.returns-in_ok-step-in-Rename-clause-step
 returns-in_ok-step-in-Rename-clause-step c =
-    subst (λ (o : OpTask). HasStepped (config_of o) (areas_of o) (rename.areas_of c.next-in-Rename.new.self) (effect_of o) (rename.effect_of c.next-in-Rename.new.self) c.args.txn.now c.next-in-Rename.new.txn c.in_ok-step-in-Rename.step) (sym c.in-Rename.is)
+    subst (λ (o : OpTask). HasStepped (op_config o) (op_areas o) (rename.rename_areas c.next-in-Rename.new.self) (op_effect o) (rename.rename_effect c.next-in-Rename.new.self) c.args.txn.now c.next-in-Rename.new.txn c.in_ok-step-in-Rename.step) (sym c.in-Rename.is)
     c.in_ok-step-in-Rename.ensures.step

@@ -1,5 +1,5 @@
 use Rattle.std.proofs.Common.{rules}
-use Rattle.row_records.specs.Rows.{alloc_of}
+use Rattle.row_records.specs.Rows.{read_alloc}
 use Rattle.row_tree.proofs.Putting.{has_alloc, no_alloc, puts_alloc, told_place}
 use Rattle.row_tree.proofs.typed.TypedRows.put_alloc.Goals as goal
 
@@ -9,7 +9,7 @@ returns-in_ok-insert-in-Ok-clause-ok c = puts_alloc c.args.server c.args.self.no
 pub returns-in-Err-NotARecord-clause-bad : goal.returns-in-Err-NotARecord-clause-bad
 returns-in-Err-NotARecord-clause-bad c = λ same.
     no_alloc c.args.server c.args.value.now c.in-Err-NotARecord.field-0-0
-    (told_place c.read.result (alloc_of c.args.value.now) c.in-Err-NotARecord.field-0 c.in-Err-NotARecord.field-0-0 c.in-Err-NotARecord.is c.in-Err-NotARecord.field-0-is c.read.ensures.gives)
+    (told_place c.read.result (read_alloc c.args.value.now) c.in-Err-NotARecord.field-0 c.in-Err-NotARecord.field-0-0 c.in-Err-NotARecord.is c.in-Err-NotARecord.field-0-is c.read.ensures.gives)
 
 pub returns-in_err-insert-in-Ok-clause-memory : goal.returns-in_err-insert-in-Ok-clause-memory
 returns-in_err-insert-in-Ok-clause-memory c = λ none. absurd (has_alloc c.args.server c.args.value.now c.in-Ok.row c.in-Ok.ensures.gives none)

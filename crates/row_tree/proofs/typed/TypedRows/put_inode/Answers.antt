@@ -1,5 +1,5 @@
 use Rattle.std.proofs.Common.{rules}
-use Rattle.inode_record.specs.Inode.{inode_of}
+use Rattle.inode_record.specs.Inode.{read_inode}
 use Rattle.row_tree.proofs.Putting.{no_inode, puts_inode, told_place}
 use Rattle.row_tree.proofs.typed.TypedRows.put_inode.Goals as goal
 
@@ -9,4 +9,4 @@ returns-in_ok-insert-in-Ok-clause-ok c = puts_inode c.args.id c.args.self.now _ 
 pub returns-in-Err-NotARecord-clause-bad : goal.returns-in-Err-NotARecord-clause-bad
 returns-in-Err-NotARecord-clause-bad c = λ same.
     no_inode c.args.id c.args.value.now c.in-Err-NotARecord.field-0-0
-    (told_place c.read.result (inode_of c.args.value.now) c.in-Err-NotARecord.field-0 c.in-Err-NotARecord.field-0-0 c.in-Err-NotARecord.is c.in-Err-NotARecord.field-0-is c.read.ensures)
+    (told_place c.read.result (read_inode c.args.value.now) c.in-Err-NotARecord.field-0 c.in-Err-NotARecord.field-0-0 c.in-Err-NotARecord.is c.in-Err-NotARecord.field-0-is c.read.ensures)

@@ -1,5 +1,5 @@
 use Rattle.std.proofs.Common.{rules}
-use Rattle.row_records.specs.Rows.{kept_of}
+use Rattle.row_records.specs.Rows.{read_kept}
 use Rattle.row_tree.proofs.Putting.{no_kept, puts_kept, told_place}
 use Rattle.row_tree.proofs.typed.TypedRows.put_kept.Goals as goal
 
@@ -9,4 +9,4 @@ returns-in_ok-insert-in-Ok-clause-ok c = puts_kept c.args.client c.args.self.now
 pub returns-in-Err-NotARecord-clause-bad : goal.returns-in-Err-NotARecord-clause-bad
 returns-in-Err-NotARecord-clause-bad c = λ same.
     no_kept c.args.client c.args.value.now c.in-Err-NotARecord.field-0-0
-    (told_place c.read.result (kept_of c.args.value.now) c.in-Err-NotARecord.field-0 c.in-Err-NotARecord.field-0-0 c.in-Err-NotARecord.is c.in-Err-NotARecord.field-0-is c.read.ensures)
+    (told_place c.read.result (read_kept c.args.value.now) c.in-Err-NotARecord.field-0 c.in-Err-NotARecord.field-0-0 c.in-Err-NotARecord.is c.in-Err-NotARecord.field-0-is c.read.ensures)

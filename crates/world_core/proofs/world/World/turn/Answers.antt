@@ -3,10 +3,10 @@ use Rattle.std.specs.Prelude.{slice_get}
 use Rattle.world_core.specs.Objects.{no_histories}
 use Rattle.request_run.specs.Entries.{entries_of}
 use Rattle.seat_turns.specs.Events.{IsEvent}
-use Rattle.seat_turns.specs.Left.{GoesOn}
+use Rattle.seat_turns.specs.Left.{SeatsGoOn}
 use Rattle.seat_turns.specs.declared.seats.Seat.{Seat}
 use Rattle.client_core.specs.declared.plan.Script.{Script}
-use Rattle.world_core.specs.World.{WorldView, plan_of}
+use Rattle.world_core.specs.World.{WorldView, plan_of_world}
 use Rattle.world_core.proofs.Closing.{grown_step, not_ended, world_went}
 use Rattle.world_core.proofs.world.World.turn.Goals as goal
 
@@ -28,13 +28,13 @@ returns-clause-turn c =
       left = λ seat at.
           not_ended c.self.inside.seats.items c.from.result c.args.client c.index.result.now c.has_ended.result c.from.ensures (subst (λ (w : WorldView). c.args.client < length w.seats) (sym c.self.view_is) c.requires) c.index.ensures
           c.has_ended.ensures c.if-has_ended.false seat (ap (λ (w : WorldView). slice_get w.seats c.args.client) c.self.view_is ∙ at);
-      seats = subst (λ (w : WorldView). GoesOn w.seats c.event.new.seats.items c.args.client) c.self.view_is c.in_ok-event.ensures.goes;
+      seats = subst (λ (w : WorldView). SeatsGoOn w.seats c.event.new.seats.items c.args.client) c.self.view_is c.in_ok-event.ensures.goes;
       event = subst
           (λ (w : WorldView).
           (before after : Seat) → slice_get w.seats c.args.client ≡ Some before → slice_get c.event.new.seats.items c.args.client ≡ Some after
           → IsEvent w.config w.attempts c.args.client (entries_of w.objects.store.journal) (entries_of c.event.new.store.journal) before after)
           c.self.view_is c.in_ok-event.ensures.event;
-      same_plan = ap (λ (scripts : List Script). record { config = c.self.inside.config; attempts = c.self.inside.attempts; clients = scripts; schedule = c.self.inside.schedule }) c.event.ensures.scripts ∙ ap plan_of c.self.view_is;
+      same_plan = ap (λ (scripts : List Script). record { config = c.self.inside.config; attempts = c.self.inside.attempts; clients = scripts; schedule = c.self.inside.schedule }) c.event.ensures.scripts ∙ ap plan_of_world c.self.view_is;
       objects = λ seat at.
           grown_step c.args.self.now.objects c.self.inside.store c.event.new.store (no_histories c.self.inside.config.nodes) seat.client.script.id (ap (λ (w : WorldView). w.objects) c.self.view_is)
           (c.event.ensures.step seat (ap (λ (w : WorldView). slice_get w.seats c.args.client) c.self.view_is ∙ at));
