@@ -1,8 +1,8 @@
-ghost use Rattle.std.specs.Prelude.{◌≡◌, IfOk};
+ghost use Rattle.std.specs.Prelude.{◌≡◌, ◌≤◌, IfOk, IsTrue};
 ghost use Rattle.tree_model.specs.Calls.{effect};
 ghost use Rattle.tree_model.specs.Tree.{Tree};
 ghost use Rattle.path_walk.specs.Footprint.{call_areas};
-ghost use Rattle.path_walk.specs.Requests.{IsRequest};
+ghost use Rattle.row_records.specs.Calls.{is_call};
 ghost use Rattle.op_session.specs.Session.{IsSessionReady, IsSessionCall, session_task_areas, session_effect};
 ghost use Rattle.op_session.specs.Beginning.{IsHeldBy, IsOpenOf};
 
@@ -49,7 +49,8 @@ pub struct SessionTask {
 impl SessionTask {
     /// The task of one of the four calls. Nothing is asked for yet; a fault in a place's text is known.
     pub fn new(alloc: Global, request: &Request, config: &Config) -> Result<SessionTask, Memory>
-        requires valid { IsRequest config.now request.now }
+        requires number { 1 ≤ request.now.number }
+        requires ranges { IsTrue (is_call (request.now.stamp, request.now.call)) }
         requires call { IsSessionCall request.now.call }
         ensures config { IfOk result (λ task. task.config ≡ config.now) }
         ensures effect { IfOk result (λ task. (T : Tree) → session_effect task T ≡ effect config.now T request.now) }
@@ -86,7 +87,8 @@ impl SessionTask {
         place: &Place,
         mode: OpenMode,
     ) -> Result<SessionTask, Memory>
-        requires valid { IsRequest config.now request.now }
+        requires number { 1 ≤ request.now.number }
+        requires ranges { IsTrue (is_call (request.now.stamp, request.now.call)) }
         requires call { IsOpenOf request.now request.now.call mode place.now }
         ensures config { IfOk result (λ task. task.config ≡ config.now) }
         ensures effect { IfOk result (λ task. (T : Tree) → session_effect task T ≡ effect config.now T request.now) }

@@ -5,4 +5,4 @@ use Rattle.op_session.proofs.task.SessionTask.open.Goals as goal
 pub returns-clause-ready : goal.returns-clause-ready
 returns-clause-ready c =
     let q = c.args.request.now in
-    begins_ready q q.call c.args.mode c.args.place.now c.requires.valid.number (stamp_fits q.stamp q.call c.requires.valid.call) c.requires.call
+    begins_ready q q.call c.args.mode c.args.place.now c.requires.number (stamp_fits q.stamp q.call c.requires.ranges) c.requires.call
