@@ -1,5 +1,5 @@
 -- Clients by the courses of their requests: one course more, and the numbers of all receipts.
-use Rattle.std.proofs.Common.{◌≡◌, ℕ, ◌+◌, ◌<◌, inl, inr, List, [], ◌∷◌, ◌++◌, Option, Some, None, refl, sym, ap, subst, ◌∙◌}
+use Rattle.std.proofs.Common.{◌≡◌, ℕ, ◌+◌, ◌<◌, ◌≤◌, inl, inr, List, [], ◌∷◌, ◌++◌, Option, Some, None, true, refl, sym, ap, subst, ◌∙◌}
 use Rattle.std.proofs.Common.{append-nil, append_assoc, arith}
 use Rattle.std.specs.Prelude.{slice_get}
 use Rattle.fs_base.specs.Config.{Settings}
@@ -10,6 +10,7 @@ use Rattle.client_core.specs.Client.{ClientView, client_step, end_call, new_clie
 use Rattle.client_core.specs.Courses.{Course, IsFrom, AreNumbered, after_course, after_courses, gone_at, receipts_along}
 use Rattle.client_core.specs.Courses.{receipts_of_ask, replied, sent_again}
 use Rattle.client_core.specs.Moved.{gone_from, server_after_stops}
+use Rattle.client_core.specs.Ops.{receipt_of}
 use Rattle.client_core.specs.Plans.{IsScript}
 use Rattle.client_core.specs.declared.messages.ClientAnswer.TheVariants as answers
 use Rattle.client_core.specs.declared.messages.ClientAsk.{ClientAsk}
@@ -47,6 +48,18 @@ pub course_ends : (rest c : ClientView) (request : Request) (stops : List ℕ) (
     → sent_again stops (client_step rest answers.Next) ≡ (c, asks.Send c.server request)
     → after_course rest (record { stops = stops; outcome = outcome }) ≡ end_call c c.server outcome c.request
 course_ends rest c request stops outcome is = ap (replied outcome) is
+
+-- the receipt that a client keeps of a request that ended
+pub kept_is : (c : ClientView) (server : ℕ) (outcome : Outcome) (request : Request) (receipt : Receipt)
+    → asks.CallEnd (receipt ∷ []) true ≡ (end_call c server outcome (Some request)).1
+    → receipt ≡ receipt_of c.op request server c.gone outcome
+kept_is c server outcome request receipt e = cc
+
+-- and one operation more has ended
+pub op_kept : (c : ClientView) (server : ℕ) (outcome : Outcome) (o : Option Request) (receipt : Receipt)
+    → asks.CallEnd (receipt ∷ []) true ≡ (end_call c server outcome o).1 → (end_call c server outcome o).0.op ≡ c.op + 1
+op_kept c server outcome None receipt e = absurd (cc)
+op_kept c server outcome (Some request) receipt e = refl
 
 -- ---- where it stands
 
@@ -132,3 +145,8 @@ module _ (C : Settings) (script : Script) where
   same_op rest c (Some request) h from =
       let way : IsOnWay h.op c request = on_way rest c request h from in
       ap (λ (v : ClientView). v.op) way.is ∙ sym (ap (λ (v : ClientView). v.op) h.is)
+
+-- numbers rise
+pub numbered_up : (op last : ℕ) (rs : List Receipt) → AreNumbered op rs last → op ≤ last
+numbered_up op last [] h = omega (arith, h)
+numbered_up op last (r ∷ rs) h = omega (arith, numbered_up (op + 1) last rs h.2)

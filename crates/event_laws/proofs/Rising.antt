@@ -5,12 +5,13 @@ use Rattle.std.proofs.lemmas.Bool.{cases_Bool}
 use Rattle.std.proofs.lemmas.List.{length_push}
 use Rattle.fs_base.specs.declared.ids.ClientId.{ClientId}
 use Rattle.run_record.specs.Outcomes.{seen_by}
-use Rattle.run_record.specs.Receipts.{Rises, front_of, fronts_of, outcome_of}
+use Rattle.run_record.specs.Receipts.{Rises, front_of, fronts_of, outcome_of, newest_seen}
 use Rattle.run_record.specs.declared.run.Listed.{Listed}
+use Rattle.run_record.proofs.OneMore.{version_after-push}
 use Rattle.request_run.specs.Entries.{entries_of}
 use Rattle.request_run.proofs.Rows.{length_entries}
 use Rattle.world_core.specs.EventList.{AreEvents, Event}
-use Rattle.seat_turns.specs.Kept.{IsSeat, newest_seen}
+use Rattle.seat_turns.specs.Kept.{IsSeat}
 use Rattle.world_core.specs.Objects.{IsStep, Objects}
 use Rattle.world_core.specs.World.{HasGone, WorldView}
 use Rattle.seat_turns.specs.declared.seats.Seat.{Seat}
@@ -35,10 +36,6 @@ event_grows event gone =
 
 -- ---- the last receipt
 
-last_seen : (floor : ℕ) (receipts : List Listed) (listed : Listed) → newest_seen floor (receipts ++ listed ∷ []) ≡ seen_by (outcome_of listed.receipt)
-last_seen floor [] listed = refl
-last_seen floor (first ∷ rest) listed = last_seen (seen_by (outcome_of first.receipt)) rest listed
-
 last_rises : (floor : ℕ) (receipts : List Listed) (listed : Listed) → Rises floor (receipts ++ listed ∷ []) → front_of listed.fronts ≤ listed.receipt.version
 last_rises floor [] listed h = h.1
 last_rises floor (first ∷ rest) listed h = last_rises (seen_by (outcome_of first.receipt)) rest listed h.2
@@ -50,7 +47,7 @@ module _ (event : Event) (listed : Listed) (gone : HasGone event.before event.af
   pub seen_within : seen_by (outcome_of listed.receipt) ≤ length event.after.objects.store.journal
   seen_within =
       let within : newest_seen 0 told.later.receipts ≤ length (entries_of event.after.objects.store.journal) = seat_told.past.within in
-      let last : newest_seen 0 told.later.receipts ≡ seen_by (outcome_of listed.receipt) = ap (newest_seen 0) told.more ∙ last_seen 0 told.seat.receipts listed in
+      let last : newest_seen 0 told.later.receipts ≡ seen_by (outcome_of listed.receipt) = ap (newest_seen 0) told.more ∙ version_after-push 0 told.seat.receipts listed in
       let count : length (entries_of event.after.objects.store.journal) ≡ length event.after.objects.store.journal = length_entries event.after.objects.store.journal in
       omega arith
 

@@ -1,6 +1,5 @@
 -- A request being served: an answer brings its next ask, or its end.
-use Rattle.std.proofs.Common.{◌≡◌, ℕ, ◌<◌, ◌≤◌, ◌+◌, ◌^◌, ◌⊎◌, inl, inr, List, [], ◌∷◌, ◌++◌, Some, None, true, false, length, sym, ◌∙◌, ap, refl, subst, arith, zero, suc}
-use Rattle.std.proofs.lemmas.Option.{same_Some}
+use Rattle.std.proofs.Common.{◌≡◌, ℕ, ◌<◌, ◌≤◌, ◌+◌, ◌^◌, ◌⊎◌, inl, inr, List, [], ◌∷◌, ◌++◌, Some, true, false, length, sym, ◌∙◌, ap, refl, subst, arith}
 use Rattle.conflict_sets.specs.Reads as bytes
 use Rattle.conflict_sets.specs.Rows.{value_at_key, rows_between}
 use Rattle.conflict_sets.specs.declared.sets.Got.{Got}
@@ -29,13 +28,14 @@ use Rattle.meta_task.specs.declared.entry.MetaEntry.{MetaEntry}
 use Rattle.meta_task.specs.declared.waiting.Waiting.{Waiting}
 use Rattle.meta_task.specs.declared.waiting.Waiting.TheVariants as waits
 use Rattle.histories.proofs.Lists.{at_cases, at_new, at_within}
-use Rattle.run_record.specs.Legal.{EntryAt, journal_rows, writes_of}
-use Rattle.run_record.specs.Outcomes.{version_before, AreAttempts, MayTell, Shows}
+use Rattle.run_record.specs.Legal.{journal_rows, writes_of}
+use Rattle.run_record.specs.Outcomes.{last_version, version_before, AreAttempts, MayTell, Shows}
 use Rattle.run_record.specs.Receipts.{IsConflict}
+use Rattle.run_record.proofs.Growing.{at_only}
 use Rattle.run_record.proofs.Rising.{last_version_above}
 use Rattle.request_run.specs.Answered.{HasKey, IsAnswer, IsExchange, IsAskSpellable, MayAnswer}
 use Rattle.request_run.specs.Entries.{IsGrowth, entries_of, store_with_entry}
-use Rattle.request_run.specs.Served.{AreCovered, AreEarlier, CameTo, HasMetConflicts, IsBegun, AreReadsCovered, IsOwnEntry, IsAskPending, IsTaskReady, IsTaskServed, last_version}
+use Rattle.request_run.specs.Served.{AreCovered, AreEarlier, CameTo, HasMetConflicts, IsBegun, AreReadsCovered, IsOwnEntry, IsAskPending, IsTaskReady, IsTaskServed}
 use Rattle.run_record.specs.Sound.{IsSoundJournal}
 use Rattle.request_run.specs.Sound.{IsStoreOpening}
 use Rattle.run_record.proofs.OneMore.{AreConflicts-push, last_version-push, version_before-push}
@@ -101,7 +101,7 @@ module _ (journal : List Entry) (front : ℕ) (task : TaskView) (s : IsSoundJour
   made : (entry : Entry) → IsAskPending task.config task (asks.Commit entry) → (version : ℕ) → IsSoundJournal task.config (journal ++ entry ∷ []) → version ≡ length journal + 1 → IsMadeReply task version outcome → Came (journal ++ entry ∷ [])
   made entry p version grown newest reply =
       came_made task.config (journal ++ entry ∷ []) grown task.attempts task.request front outcome
-      (HasMet-longer task.config journal (entry ∷ []) task.request front outcome.conflicts (λ behind e at mine. subst (IsOwnEntry task.request (last_version front outcome.conflicts) (length journal + behind)) (only behind e at) (own (length journal + behind) (omega (arith, last)))) parts.0)
+      (HasMet-longer task.config journal (entry ∷ []) task.request front outcome.conflicts (λ behind e at mine. subst (IsOwnEntry task.request (last_version front outcome.conflicts) (length journal + behind)) (at_only entry behind e at) (own (length journal + behind) (omega (arith, last)))) parts.0)
       (length journal) entry (at_new journal entry) (ap (λ (q : Request). q.client) p.2) (own (length journal) last)
       (same_reply entry.reply outcome.reply (sym p.0 ∙ reply.waiting)) reply.mark (reply.version ∙ newest) parts.2
     where
@@ -117,10 +117,6 @@ module _ (journal : List Entry) (front : ℕ) (task : TaskView) (s : IsSoundJour
             server = ap (λ (q : Request). q.server) p.2;
             behind = behind;
           }
-
-      only : (behind : ℕ) (e : Entry) → EntryAt (entry ∷ []) behind e → entry ≡ e
-      only zero e at = same_Some entry e at
-      only (suc behind) e at = absurd (let f : None ≡ Some e = at in cc)
 
       same_reply : (x y : Reply) → waits.Committing x ≡ waits.Committing y → x ≡ y
       same_reply x y e = cc

@@ -6,8 +6,7 @@ use Rattle.std.specs.Ordering.{is_eq, is_lt, is_ge, is_le}
 use Rattle.std.specs.declared.cmp.Ordering.TheVariants.{Less, Greater}
 use Rattle.std.proofs.lemmas.Bool.{and_from, and_parts, or_cases}
 use Rattle.conflict_sets.specs.Keys.{key_cmp}
-use Rattle.conflict_sets.specs.Reads as bytes
-use Rattle.conflict_sets.specs.Reads.{KeysAgree, RangesAgree, reads_hold, range_holds, is_up_to_last}
+use Rattle.conflict_sets.specs.Reads.{RowsAgree as BytesAgree, KeysAgree, RangesAgree, reads_hold, range_holds, is_up_to_last}
 use Rattle.conflict_sets.specs.Rows.{IsAscending, is_inside}
 use Rattle.conflict_sets.specs.declared.sets.KeyRead.{KeyRead}
 use Rattle.conflict_sets.specs.declared.sets.RangeRead.{RangeRead}
@@ -37,7 +36,7 @@ use Rattle.request_run.specs.Served.{AreSpelledIn, AreReadsCovered}
 
 -- ---- one more read
 
-pub KeysAgree-push : (rows : List Row) (reads : List KeyRead) (read : KeyRead) → KeysAgree rows reads → bytes.KeysAgree rows (read ∷ []) → KeysAgree rows (reads ++ read ∷ [])
+pub KeysAgree-push : (rows : List Row) (reads : List KeyRead) (read : KeyRead) → KeysAgree rows reads → KeysAgree rows (read ∷ []) → KeysAgree rows (reads ++ read ∷ [])
 KeysAgree-push rows [] read h e = e
 KeysAgree-push rows (r ∷ reads) read h e = (h.0, KeysAgree-push rows reads read h.1 e)
 
@@ -93,7 +92,7 @@ keys_touched : (areas : List Area) (reads : List KeyRead) → AreSpelledIn areas
 keys_touched areas [] h = tt
 keys_touched areas (read ∷ reads) h = ((h.0.0, h.0.2, h.0.3), keys_touched areas reads h.1)
 
-module _ (C : Settings) (q : Request) (reads : ReadSet) (rows : List Row) (T : Tree) (covered : AreReadsCovered C q reads) (ascending : IsAscending rows) (tree : HasTree C rows T) (agrees : bytes.RowsAgree rows reads) where
+module _ (C : Settings) (q : Request) (reads : ReadSet) (rows : List Row) (T : Tree) (covered : AreReadsCovered C q reads) (ascending : IsAscending rows) (tree : HasTree C rows T) (agrees : BytesAgree rows reads) where
   covered_here : AreSpelledIn (footprint C T q) reads.keys × AreRangesTouched (footprint C T q) reads.ranges
   covered_here =
       subst (λ (t : Tree). AreSpelledIn (footprint C t q) reads.keys × AreRangesTouched (footprint C t q) reads.ranges) tree.3
@@ -149,7 +148,7 @@ range_touched areas (r ∷ reads) key h e =
     ]
 
 -- A key that reads hold, where rows of the tree agree with them, is touched.
-pub held_touched : (C : Settings) (q : Request) (reads : ReadSet) (rows : List Row) (T : Tree) (key : Key) → AreReadsCovered C q reads → IsAscending rows → HasTree C rows T → bytes.RowsAgree rows reads → IsSpellable key → reads_hold reads (spelled_key key) ≡ true
+pub held_touched : (C : Settings) (q : Request) (reads : ReadSet) (rows : List Row) (T : Tree) (key : Key) → AreReadsCovered C q reads → IsAscending rows → HasTree C rows T → BytesAgree rows reads → IsSpellable key → reads_hold reads (spelled_key key) ≡ true
     → IsKeyTouched (footprint C T q) key
 held_touched C q reads rows T key covered ascending tree agrees fits held =
     let here = covered_here C q reads rows T covered ascending tree agrees in

@@ -24,7 +24,6 @@ use Rattle.path_walk.specs.Sound.{IsSoundEntry}
 use Rattle.path_walk.proofs.WholeLaws.{kept_in}
 use Rattle.row_tree.specs.HasTree.{HasTree}
 use Rattle.tree_model.specs.Calls.{apply, after_kept, effect, is_query, settle}
-use Rattle.tree_model.specs.Effects.{Makes, at_length, settled_by}
 use Rattle.tree_model.specs.Tree.{Tree}
 use Rattle.tree_model.specs.declared.kept.KeptReply.{KeptReply}
 use Rattle.tree_model.proofs.ApplyLaws.{apply_update}
@@ -34,15 +33,16 @@ use Rattle.txn_task.specs.declared.outcome.Outcome.{Outcome}
 use Rattle.meta_task.specs.Task.{TaskView, IsKeptReply, IsReplyStale, IsToldReply}
 use Rattle.meta_task.specs.declared.waiting.Waiting.TheVariants as waits
 use Rattle.run_record.specs.Legal.{EntryAt, journal_rows, tree_at, writes_of}
-use Rattle.run_record.specs.Outcomes.{AreAttempts, IsSeen, IsToldOutcome, MayTell, NamesEntry, Shows}
+use Rattle.run_record.specs.Outcomes.{last_version, AreAttempts, IsSeen, IsToldOutcome, MayTell, NamesEntry}
+use Rattle.run_record.specs.Outcomes.{Shows}
 use Rattle.run_record.specs.Right.{IsNoRefusal}
 use Rattle.run_record.proofs.OneMore.{last_version_low}
 use Rattle.run_record.proofs.Rising.{last_version_above}
-use Rattle.run_record.proofs.TreeReplies.{IsTreeReply, accepted_reply, attempts_left, made_reply, may_tell, new_reply, query_reply}
+use Rattle.run_record.proofs.TreeReplies.{IsTreeReply, accepted_reply, attempts_left, may_tell, new_reply, query_reply}
 use Rattle.histories.proofs.Lists.{at_within}
-use Rattle.request_run.specs.Served.{CameTo, EachOf, HasMetConflicts, IsBegun, IsOwnEntry, last_version}
+use Rattle.request_run.specs.Served.{CameTo, EachOf, HasMetConflicts, IsBegun, IsOwnEntry}
 use Rattle.run_record.specs.Sound.{IsSoundJournal}
-use Rattle.run_record.proofs.History.{entry_sound, kept_above, kept_by, once, row_kept, rows_ascend, rows_tree}
+use Rattle.run_record.proofs.History.{entry_sound, kept_above, kept_by, no_refusal, once, row_kept, rows_ascend, rows_tree}
 
 -- no entry has the request's client and number
 abbrev pub HasNone : List Entry → Request → Type 0
@@ -65,12 +65,6 @@ shows_told C journal q front outcome (Refused codes.StoreFull) h told = absurd h
 shows_told C journal q front outcome reply h told = told
 
 module _ (C : Settings) (journal : List Entry) (s : IsSoundJournal C journal) where
-  pub no_refusal : (place : ℕ) (e : Entry) → EntryAt journal place e → IsNoRefusal e.reply
-  no_refusal place e at =
-      let sound : IsSoundEntry C e × bytes.RowsAgree (journal_rows C journal place) e.reads = entry_sound C journal s place e at in
-      let made : (V : Tree) × (at_length (settled_by e.reply) (effect C (tree_at C journal place) e.request) ≡ Makes V e.reply) = sound.0.makes (journal_rows C journal place) (tree_at C journal place) (rows_ascend C journal s place) (rows_tree C journal s place) sound.1 in
-      made_reply C (tree_at C journal place) made.0 e.request e.reply made.1
-
   -- ---- a request that has met these conflicts
 
   module _ (q : Request) (front : ℕ) (pairs : List (ℕ × Key))
@@ -126,7 +120,7 @@ module _ (C : Settings) (journal : List Entry) (s : IsSoundJournal C journal) wh
                   let own : by.entry.request.number ≡ q.number = (is_own by.place by.entry by.at by.client_is (omega arith)).number in
                   let again : apply C T q 0 ≡ (T, kept.0.reply) = told_again C T q 0 kept.0 update kept.1 (sym numbers ∙ own) in
                   let reply_is : by.entry.reply ≡ Refused (codes.Stale stale.0) = ap (λ (r : KeptReply). r.reply) row_is ∙ (ap (λ (pair : Tree × Reply). pair.1) (sym again ∙ told 0) ∙ stale.1) in
-                  subst IsNoRefusal reply_is (no_refusal by.place by.entry by.at))
+                  subst IsNoRefusal reply_is (no_refusal C journal s by.place by.entry by.at))
             ]
 
         -- an uncommitted reply isn't that of an entry, and it is the tree's
@@ -163,7 +157,7 @@ module _ (C : Settings) (journal : List Entry) (s : IsSoundJournal C journal) wh
     came_made place e at mine own reply mark version left =
         let within : place < length journal = at_within journal place e at in
         let behind : floor ≤ place = own.behind in
-        let accepted : IsTreeReply outcome.reply = accepted_reply outcome.reply (subst IsNoRefusal reply (no_refusal place e at)) in
+        let accepted : IsTreeReply outcome.reply = accepted_reply outcome.reply (subst IsNoRefusal reply (no_refusal C journal s place e at)) in
         record {
           outcome_is = marked true mark
               (record { place = place; version = version; entry = e; at = at; client = mine; number = own.number; stamp = own.stamp; call = own.call; reply = reply; above = behind });

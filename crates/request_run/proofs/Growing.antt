@@ -8,9 +8,10 @@ use Rattle.fs_base.specs.declared.row.Row.{Row}
 use Rattle.key_schema.specs.declared.key.Key.{Key}
 use Rattle.txn_task.specs.declared.messages.Entry.{Entry}
 use Rattle.meta_task.specs.Task.{TaskView}
+use Rattle.run_record.specs.Outcomes.{last_version}
 use Rattle.run_record.proofs.Growing.{AreConflicts-longer, at_either, rows-longer, within_longer}
 use Rattle.request_run.specs.Served.{AreOtherClients, EachOf, HasMetConflicts, IsBegun, IsOwnEntry}
-use Rattle.request_run.specs.Served.{IsTaskServed, last_version}
+use Rattle.request_run.specs.Served.{IsTaskServed}
 
 module _ (C : Settings) (es more : List Entry) where
   -- what holds of the client's old entries and of its new ones

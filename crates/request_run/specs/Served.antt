@@ -23,8 +23,7 @@ use Rattle.txn_task.specs.declared.outcome.Outcome.{Outcome}
 use Rattle.meta_task.specs.Task.{TaskView}
 use Rattle.meta_task.specs.declared.waiting.Waiting.TheVariants as waits
 use Rattle.run_record.specs.Legal.{EntryAt, journal_rows}
-use Rattle.run_record.specs.Outcomes.{seen_by, AreAttempts, IsOutcome, MayTell}
-pub use Rattle.run_record.specs.Outcomes.{last_version}
+use Rattle.run_record.specs.Outcomes.{last_version, seen_by, AreAttempts, IsOutcome, MayTell}
 use Rattle.run_record.specs.Receipts.{AreConflicts}
 use Rattle.run_record.specs.Touched.{AreRangesTouched}
 

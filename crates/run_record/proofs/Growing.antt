@@ -2,6 +2,7 @@
 use Rattle.std.proofs.Common.{◌≡◌, ℕ, ◌<◌, ◌≤◌, ◌+◌, ◌⊎◌, inl, inr, List, [], ◌∷◌, ◌++◌, Some, None, true, false, length, length-append, sym, ap, subst, arith, suc, zero}
 use Rattle.std.specs.Prelude.{MatchBool, MatchOption}
 use Rattle.std.proofs.lemmas.List.{take-append-le}
+use Rattle.std.proofs.lemmas.Option.{same_Some}
 use Rattle.fs_base.specs.Config.{Settings}
 use Rattle.fs_base.specs.declared.call.Request.{Request}
 use Rattle.fs_base.specs.declared.code.Code.TheVariants as codes
@@ -34,6 +35,11 @@ at_either (x ∷ es) more (suc place) e at = elim (at_either es more place e at)
   | inl old ↦ inl old
   | inr is ↦ inr (is.0, (let p : place ≡ length es + is.0 = is.1 in omega arith), is.2)
 ]
+
+-- one entry, and no other
+pub at_only : (one : Entry) (place : ℕ) (e : Entry) → EntryAt (one ∷ []) place e → one ≡ e
+at_only one zero e at = same_Some one e at
+at_only one (suc place) e at = absurd (let f : None ≡ Some e = at in cc)
 
 module _ (C : Settings) (es more : List Entry) where
   pub within_longer : (n : ℕ) → n ≤ length es → n ≤ length (es ++ more)

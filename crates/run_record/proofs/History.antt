@@ -43,7 +43,9 @@ use Rattle.txn_task.specs.Writes.{written_at}
 use Rattle.txn_task.specs.declared.messages.Entry.{Entry}
 use Rattle.histories.proofs.Versions.{place_or_end, tree_next}
 use Rattle.run_record.specs.Legal.{AreReplies, applied, EntryAt, IsLegalJournal, IsOnce, journal_rows, reads_of, tree_after, tree_at, writes_of}
+use Rattle.run_record.specs.Right.{IsNoRefusal}
 use Rattle.run_record.specs.Sound.{IsSoundJournal}
+use Rattle.run_record.proofs.TreeReplies.{made_reply}
 use Rattle.run_record.proofs.Keeping.{IsNew, kept_as, kept_own, kept_other}
 
 abbrev Run : Settings → List Row → List Entry → Type 0
@@ -99,6 +101,9 @@ module _ (C : Settings) (journal : List Entry) (s : IsSoundJournal C journal) wh
   made_at place e at =
       let sound = entry_sound C journal s place e at in
       sound.0.makes (journal_rows C journal place) (tree_at C journal place) (rows_ascend place) (rows_tree C journal s place) sound.1
+
+  pub no_refusal : (place : ℕ) (e : Entry) → EntryAt journal place e → IsNoRefusal e.reply
+  no_refusal place e at = let made = made_at place e at in made_reply C (tree_at C journal place) made.0 e.request e.reply made.1
 
   -- after an entry its reply is kept
   pub kept_next : (place : ℕ) (e : Entry) → EntryAt journal place e → get (tree_at C journal (suc place)).kept e.request.client.0 ≡ Some (kept_as e.request e.reply)

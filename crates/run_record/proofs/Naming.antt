@@ -1,8 +1,8 @@
 -- Which entries the receipts of one client name, where its receipts alone name all of them from a version on.
-use Rattle.std.proofs.Common.{◌≡◌, ℕ, ◌+◌, ◌<◌, ◌≤◌, inl, inr, List, [], ◌∷◌, Bool, true, false, cond, eqb, length, count_by, MatchBool, refl, sym, ap, subst, ◌∙◌, arith, zero-add}
+use Rattle.std.proofs.Common.{◌≡◌, ℕ, ◌+◌, ◌<◌, ◌≤◌, inl, inr, List, [], ◌∷◌, ◌++◌, Some, Bool, true, false, cond, eqb, length, count_by, MatchBool, refl, sym, ap, subst, ◌∙◌, arith, zero-add}
 use Rattle.std.specs.Prelude.{slice_get}
 use Rattle.std.proofs.lemmas.Bool.{and_parts, cases_Bool, cases_lt, eqb-true}
-use Rattle.std.proofs.lemmas.List.Sums.{sum_by-cons}
+use Rattle.std.proofs.lemmas.List.Sums.{sum_by-append, sum_by-cons}
 use Rattle.std.proofs.lemmas.Option.{same_Some, slice_get_within}
 use Rattle.fs_base.specs.Config.{Settings}
 use Rattle.fs_base.specs.declared.ids.ClientId.{ClientId}
@@ -22,11 +22,17 @@ naming place receipts = count_by (names_place place) receipts
 abbrev pub AreNamedFrom : List Entry → ℕ → List Listed → Type 0
 AreNamedFrom journal floor receipts = (place : ℕ) → floor ≤ place → place < length journal → naming place receipts ≡ 1
 
-skipped : (place : ℕ) (listed : Listed) (rest : List Listed) → names_place place listed ≡ false → naming place (listed ∷ rest) ≡ naming place rest
-skipped place listed rest other =
-    sum_by-cons (λ (r : Listed). cond (names_place place r) 1 0) listed rest ∙ (ap (λ (b : Bool). cond b 1 0 + naming place rest) other ∙ zero-add (naming place rest))
+pub naming-append : (place : ℕ) (own rest : List Listed) → naming place (own ++ rest) ≡ naming place own + naming place rest
+naming-append place own rest = sum_by-append (λ (r : Listed). cond (names_place place r) 1 0) own rest
 
-named_parts : (place : ℕ) (listed : Listed) → names_place place listed ≡ true → (listed.receipt.committed ≡ true) × (listed.receipt.version ≡ place + 1)
+-- the first receipt and the others
+pub naming-cons : (place : ℕ) (listed : Listed) (rest : List Listed) (b : Bool) → names_place place listed ≡ b → naming place (listed ∷ rest) ≡ cond b 1 0 + naming place rest
+naming-cons place listed rest b is = sum_by-cons (λ (r : Listed). cond (names_place place r) 1 0) listed rest ∙ ap (λ (c : Bool). cond c 1 0 + naming place rest) is
+
+skipped : (place : ℕ) (listed : Listed) (rest : List Listed) → names_place place listed ≡ false → naming place (listed ∷ rest) ≡ naming place rest
+skipped place listed rest other = naming-cons place listed rest false other ∙ zero-add (naming place rest)
+
+pub named_parts : (place : ℕ) (listed : Listed) → names_place place listed ≡ true → (listed.receipt.committed ≡ true) × (listed.receipt.version ≡ place + 1)
 named_parts place listed names =
     let parts : (listed.receipt.committed ≡ true) × (eqb listed.receipt.version (place + 1) ≡ true) = and_parts listed.receipt.committed (eqb listed.receipt.version (place + 1)) names in
     (parts.0, eqb-true listed.receipt.version (place + 1) parts.1)
@@ -59,15 +65,17 @@ module _ (C : Settings) (attempts : ℕ) (journal : List Entry) (client : Client
   pub front_above : (floor : ℕ) (listed : Listed) (rest : List Listed) (h : IsServedReceipt C journal client listed) → Rises floor (listed ∷ rest) → floor ≤ front_of listed.fronts
   front_above floor listed rest h rises = rises.0
 
-  named_client : (listed : Listed) → IsServedReceipt C journal client listed → (place : ℕ) (e : Entry) → EntryAt journal place e → names_place place listed ≡ true → e.request.client ≡ client
-  named_client listed h place e at names =
-      let parts : (listed.receipt.committed ≡ true) × (listed.receipt.version ≡ place + 1) = named_parts place listed names in
-      let named : NamesEntry journal h.request (front_of listed.fronts) (outcome_of listed.receipt) = of_commit listed h parts.0 in
-      let here : listed.receipt.version ≡ place + 1 = parts.1 in
+  -- the entry has the receipt's number, and is its client's
+  pub named_is : (listed : Listed) → IsServedReceipt C journal client listed → (place : ℕ) (e : Entry) → EntryAt journal place e → (listed.receipt.committed ≡ true) × (listed.receipt.version ≡ place + 1)
+      → (e.request.client ≡ client) × (listed.receipt.number ≡ Some e.request.number)
+  named_is listed h place e at (mark, here) =
+      let named : NamesEntry journal h.request (front_of listed.fronts) (outcome_of listed.receipt) = of_commit listed h mark in
       let there : listed.receipt.version ≡ named.place + 1 = named.version in
       let places : named.place ≡ place = omega arith in
-      let one : named.entry ≡ e = same_Some named.entry e (sym named.at ∙ (ap (slice_get journal) places ∙ at)) in
-      ap (λ (x : Entry). x.request.client) (sym one) ∙ (named.client ∙ h.client_is)
+      let one : named.entry ≡ e = same_Some named.entry e (sym named.at ∙ (ap (slice_get journal) places ∙ at)) in (
+        ap (λ (x : Entry). x.request.client) (sym one) ∙ (named.client ∙ h.client_is),
+        h.is_of.number ∙ ap (λ (n : ℕ). Some n) (sym named.number ∙ ap (λ (x : Entry). x.request.number) one),
+      )
 
   -- ---- receipts in order
 
@@ -75,7 +83,7 @@ module _ (C : Settings) (attempts : ℕ) (journal : List Entry) (client : Client
   pub own_entry : (receipts : List Listed) → AreReceipts C attempts journal client receipts → (place : ℕ) (e : Entry) → EntryAt journal place e → naming place receipts ≡ 1 → e.request.client ≡ client
   own_entry [] h place e at one = absurd (let f : 0 ≡ 1 = one in omega arith)
   own_entry (listed ∷ rest) h place e at one = elim (cases_Bool (names_place place listed)) [
-    | inl names ↦ named_client listed (served h.0) place e at names
+    | inl names ↦ (named_is listed (served h.0) place e at (named_parts place listed names)).0
     | inr other ↦ own_entry rest h.1 place e at (sym (skipped place listed rest other) ∙ one)
   ]
 

@@ -1,12 +1,13 @@
 -- Conflicts and receipts, with one more.
-use Rattle.std.proofs.Common.{◌≡◌, ℕ, ◌≤◌, List, [], ◌∷◌, ◌++◌, refl, arith}
+use Rattle.std.proofs.Common.{◌≡◌, ℕ, ◌≤◌, ◌+◌, inl, inr, List, [], ◌∷◌, ◌++◌, true, refl, arith}
 use Rattle.fs_base.specs.Config.{Settings}
 use Rattle.fs_base.specs.declared.call.Request.{Request}
 use Rattle.fs_base.specs.declared.ids.ClientId.{ClientId}
 use Rattle.key_schema.specs.declared.key.Key.{Key}
 use Rattle.txn_task.specs.declared.messages.Entry.{Entry}
-use Rattle.run_record.specs.Outcomes.{last_version, version_before}
-use Rattle.run_record.specs.Receipts.{AreConflicts, AreLater, AreReceipts, IsConflict, IsReceipt, MayMeet, MayMeetAll, NamesLater}
+use Rattle.run_record.specs.Outcomes.{last_version, seen_by, version_before}
+use Rattle.run_record.specs.Receipts.{AreConflicts, AreLater, AreReceipts, HasReceipt, IsConflict, IsReceipt, MayMeet, MayMeetAll, NamesLater, Rises}
+use Rattle.run_record.specs.Receipts.{front_of, outcome_of, newest_seen}
 use Rattle.run_record.specs.declared.run.Listed.{Listed}
 
 -- ---- conflicts
@@ -41,3 +42,19 @@ last_version_low floor (q ∷ pairs) = omega arith
 pub AreReceipts-push : (C : Settings) (attempts : ℕ) (es : List Entry) (client : ClientId) (rs : List Listed) (r : Listed) → AreReceipts C attempts es client rs → IsReceipt C attempts es client r → AreReceipts C attempts es client (rs ++ r ∷ [])
 AreReceipts-push C attempts es client [] r h n = (n, tt)
 AreReceipts-push C attempts es client (x ∷ rs) r h n = (h.0, AreReceipts-push C attempts es client rs r h.1 n)
+
+pub HasReceipt-push : (rs : List Listed) (r : Listed) (place : ℕ) → HasReceipt rs place → HasReceipt (rs ++ r ∷ []) place
+HasReceipt-push [] r place h = absurd h
+HasReceipt-push (x ∷ rs) r place h = elim h [ inl here ↦ inl here | inr later ↦ inr (HasReceipt-push rs r place later) ]
+
+pub HasReceipt_new : (rs : List Listed) (r : Listed) (place : ℕ) → (r.receipt.committed ≡ true) × (r.receipt.version ≡ place + 1) → HasReceipt (rs ++ r ∷ []) place
+HasReceipt_new [] r place is = inl is
+HasReceipt_new (x ∷ rs) r place is = inr (HasReceipt_new rs r place is)
+
+pub Rises-push : (floor : ℕ) (rs : List Listed) (r : Listed) → Rises floor rs → newest_seen floor rs ≤ front_of r.fronts → front_of r.fronts ≤ r.receipt.version → Rises floor (rs ++ r ∷ [])
+Rises-push floor [] r h from up = (from, up, tt)
+Rises-push floor (x ∷ rs) r h from up = (h.0, h.1, Rises-push (seen_by (outcome_of x.receipt)) rs r h.2 from up)
+
+pub version_after-push : (floor : ℕ) (rs : List Listed) (r : Listed) → newest_seen floor (rs ++ r ∷ []) ≡ seen_by (outcome_of r.receipt)
+version_after-push floor [] r = refl
+version_after-push floor (x ∷ rs) r = version_after-push (seen_by (outcome_of x.receipt)) rs r

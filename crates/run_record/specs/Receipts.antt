@@ -159,6 +159,17 @@ Rises floor (listed ∷ rest) =
     (floor ≤ front_of listed.fronts) × (front_of listed.fronts ≤ listed.receipt.version)
     × Rises (seen_by (outcome_of listed.receipt)) rest
 
+-- the newest version that the last receipt shows
+abbrev pub newest_seen : ℕ → List Listed → ℕ
+newest_seen floor [] = floor
+newest_seen floor (listed ∷ rest) = newest_seen (seen_by (outcome_of listed.receipt)) rest
+
+-- some receipt names the entry of this place
+abbrev pub HasReceipt : List Listed → ℕ → Type 0
+HasReceipt [] place = ⊥
+HasReceipt (listed ∷ rest) place =
+    ((listed.receipt.committed ≡ true) × (listed.receipt.version ≡ place + 1)) ⊎ HasReceipt rest place
+
 -- all the receipts of a client: those that its steps tell, run over what its requests came to, to the
 -- script's end
 pub record IsSection (C : Settings) (attempts : ℕ) (journal : List Entry) (k : ℕ) (script : Script)

@@ -1,10 +1,8 @@
 -- A client keeps a receipt of what its request came to.
-use Rattle.std.proofs.Common.{◌≡◌, ℕ, ◌≤◌, ◌<◌, ◌+◌, inl, inr, List, [], ◌∷◌, ◌++◌, Some, true, length, map, sym, ◌∙◌, ap, refl, subst, arith}
-use Rattle.std.specs.Prelude.{slice_get}
+use Rattle.std.proofs.Common.{◌≡◌, ℕ, ◌≤◌, ◌<◌, ◌+◌, inl, inr, List, [], ◌∷◌, ◌++◌, Some, length, map, sym, ◌∙◌, ap, refl, subst, arith}
 use Rattle.std.proofs.lemmas.Bool.{cases_lt}
 use Rattle.std.proofs.lemmas.List.{map_push}
 use Rattle.std.proofs.lemmas.List.Elements.{All-push}
-use Rattle.std.proofs.lemmas.Option.{same_Some}
 use Rattle.fs_base.specs.Config.{Settings}
 use Rattle.fs_base.specs.declared.call.Request.{Request}
 use Rattle.fs_base.specs.declared.ids.ClientId.{ClientId}
@@ -18,34 +16,14 @@ use Rattle.client_core.specs.Plans.{IsScript}
 use Rattle.client_core.specs.declared.messages.ClientAsk.{ClientAsk}
 use Rattle.client_core.proofs.Courses.{after_push, along_push, course_ends, numbered, rests_at, same_op}
 use Rattle.run_record.specs.Legal.{EntryAt}
-use Rattle.run_record.specs.Outcomes.{seen_by, NamesEntry}
-use Rattle.run_record.specs.Receipts.{fronts_of, front_of, outcome_of, AreLater, AreReceipts, IsMadeBy, IsOf, IsReceipt, IsServedReceipt}
-use Rattle.run_record.specs.Receipts.{MayMeetAll, Rises}
+use Rattle.run_record.specs.Receipts.{fronts_of, newest_seen, AreLater, HasReceipt, IsMadeBy, IsOf, IsReceipt, MayMeetAll}
 use Rattle.run_record.specs.ReplyText.{text_of}
 use Rattle.run_record.specs.declared.run.Listed.{Listed}
-use Rattle.run_record.proofs.Naming.{of_commit}
-use Rattle.run_record.proofs.OneMore.{AreReceipts-push}
-use Rattle.run_record.proofs.Served.{one_request, served}
+use Rattle.run_record.proofs.Named.{named_number}
+use Rattle.run_record.proofs.OneMore.{AreReceipts-push, HasReceipt-push, HasReceipt_new, Rises-push, version_after-push}
+use Rattle.run_record.proofs.Served.{one_request}
 use Rattle.request_run.specs.Served.{CameTo, EachOf}
-use Rattle.seat_turns.specs.Kept.{AreNamed, HasReceipt, IsPast, newest_seen}
-
--- ---- one receipt more
-
-HasReceipt-push : (rs : List Listed) (r : Listed) (place : ℕ) → HasReceipt rs place → HasReceipt (rs ++ r ∷ []) place
-HasReceipt-push [] r place h = absurd h
-HasReceipt-push (x ∷ rs) r place h = elim h [ inl here ↦ inl here | inr later ↦ inr (HasReceipt-push rs r place later) ]
-
-HasReceipt_new : (rs : List Listed) (r : Listed) (place : ℕ) → (r.receipt.committed ≡ true) × (r.receipt.version ≡ place + 1) → HasReceipt (rs ++ r ∷ []) place
-HasReceipt_new [] r place is = inl is
-HasReceipt_new (x ∷ rs) r place is = inr (HasReceipt_new rs r place is)
-
-Rises-push : (floor : ℕ) (rs : List Listed) (r : Listed) → Rises floor rs → newest_seen floor rs ≤ front_of r.fronts → front_of r.fronts ≤ r.receipt.version → Rises floor (rs ++ r ∷ [])
-Rises-push floor [] r h from up = (from, up, tt)
-Rises-push floor (x ∷ rs) r h from up = (h.0, h.1, Rises-push (seen_by (outcome_of x.receipt)) rs r h.2 from up)
-
-version_after-push : (floor : ℕ) (rs : List Listed) (r : Listed) → newest_seen floor (rs ++ r ∷ []) ≡ seen_by (outcome_of r.receipt)
-version_after-push floor [] r = refl
-version_after-push floor (x ∷ rs) r = version_after-push (seen_by (outcome_of x.receipt)) rs r
+use Rattle.seat_turns.specs.Kept.{AreNamed, IsPast}
 
 -- ---- what a request came to
 
@@ -124,41 +102,13 @@ module _ (C : Settings) (attempts : ℕ) (journal : List Entry) (k : ℕ) (clien
     | inr since ↦ HasReceipt_new receipts listed place (came.only place e at (mine ∙ sym own) since)
   ]
 
--- ---- numbers that are done
-
--- numbers rise
-numbered_up : (op last : ℕ) (rs : List Receipt) → AreNumbered op rs last → op ≤ last
-numbered_up op last [] h = omega (arith, h)
-numbered_up op last (r ∷ rs) h = omega (arith, numbered_up (op + 1) last rs h.2)
-
-module _ (C : Settings) (attempts : ℕ) (es : List Entry) (place : ℕ) (e : Entry) (at : EntryAt es place e) where
-  -- a receipt that names the entry has its number, and is its client's
-  pub names_is : (client : ClientId) (listed : Listed) → IsReceipt C attempts es client listed → (listed.receipt.committed ≡ true) × (listed.receipt.version ≡ place + 1) → (e.request.client ≡ client) × (listed.receipt.number ≡ Some e.request.number)
-  names_is client listed receipt (committed, version) =
-      let h : IsServedReceipt C es client listed = served receipt in
-      let names : NamesEntry es h.request (front_of listed.fronts) (outcome_of listed.receipt) = of_commit C attempts es client listed h committed in
-      let place_is : names.place ≡ place = (let v : listed.receipt.version ≡ names.place + 1 = names.version in omega arith) in
-      let one : names.entry ≡ e = same_Some names.entry e (sym names.at ∙ (ap (slice_get es) place_is ∙ at)) in (
-        ap (λ (x : Entry). x.request.client) (sym one) ∙ (names.client ∙ h.client_is),
-        h.is_of.number ∙ ap (λ (n : ℕ). Some n) (sym names.number ∙ ap (λ (x : Entry). x.request.number) one),
-      )
-
-  named_number : (client : ClientId) (op last : ℕ) (rs : List Listed) → AreNumbered op (map (λ (l : Listed). l.receipt) rs) last
-      → AreReceipts C attempts es client rs → HasReceipt rs place → e.request.number ≤ last
-  named_number client op last [] numbers all has = absurd has
-  named_number client op last (r ∷ rs) (op_is, number, later) all has = elim has [
-    | inl here ↦
-        (let n : e.request.number ≡ op + 1 = same_Some e.request.number (op + 1) (sym (names_is client r all.0 here).1 ∙ number) in
-        omega (arith, numbered_up (op + 1) last (map (λ (l : Listed). l.receipt) rs) later))
-    | inr later_has ↦ named_number client (op + 1) last rs later all.1 later_has
-  ]
-
-  -- an entry that has a receipt has a number that is done
-  pub past_number : (k : ℕ) (client : ClientView) (rs : List Listed) → IsScript C.servers client.script
-      → IsPast C attempts es k client rs → HasReceipt rs place → e.request.number ≤ client.op
-  past_number k client rs valid past has =
-      let rest : ClientView = after_courses (new_client C client.script) past.courses in
-      let numbers : AreNumbered 0 (map (λ (l : Listed). l.receipt) rs) rest.op
-      = subst (λ (told : List Receipt). AreNumbered 0 told rest.op) (sym past.told) (numbered C client.script past.courses) in
-      let here : client.op ≡ rest.op = same_op C client.script rest client client.request (rests_at C client.script past.courses valid) past.from in
-      omega (arith, named_number client.script.id 0 rest.op rs numbers past.each has)
+-- an entry that has a receipt has a number that is done
+pub past_number : (C : Settings) (attempts : ℕ) (es : List Entry) (place : ℕ) (e : Entry) → EntryAt es place e
+    → (k : ℕ) (client : ClientView) (rs : List Listed) → IsScript C.servers client.script
+    → IsPast C attempts es k client rs → HasReceipt rs place → e.request.number ≤ client.op
+past_number C attempts es place e at k client rs valid past has =
+    let rest : ClientView = after_courses (new_client C client.script) past.courses in
+    let numbers : AreNumbered 0 (map (λ (l : Listed). l.receipt) rs) rest.op
+    = subst (λ (told : List Receipt). AreNumbered 0 told rest.op) (sym past.told) (numbered C client.script past.courses) in
+    let here : client.op ≡ rest.op = same_op C client.script rest client client.request (rests_at C client.script past.courses valid) past.from in
+    omega (arith, named_number C attempts es place e at client.script.id 0 rest.op rs numbers past.each has)

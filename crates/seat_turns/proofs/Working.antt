@@ -1,5 +1,5 @@
 -- A client's request, from the turn that sends it to the turn that learns what it came to.
-use Rattle.std.proofs.Common.{◌≡◌, ℕ, zero, suc, ◌<◌, ◌≤◌, ◌+◌, ◌^◌, ◌⊎◌, inl, inr, List, [], ◌∷◌, ◌++◌, Option, Some, None, Bool, true, false, length, length-append, append-nil, refl, sym, ap, subst, ◌∙◌, arith}
+use Rattle.std.proofs.Common.{◌≡◌, ℕ, ◌<◌, ◌≤◌, ◌+◌, ◌^◌, ◌⊎◌, inl, inr, List, [], ◌∷◌, ◌++◌, Option, Some, None, Bool, true, false, length, length-append, append-nil, refl, sym, ap, subst, ◌∙◌, arith}
 use Rattle.std.specs.Prelude.{IfSome, slice_get, is_some}
 use Rattle.std.proofs.lemmas.Option.{same_Some, slice_get_within}
 use Rattle.fs_base.specs.Config.{Settings}
@@ -19,22 +19,22 @@ use Rattle.client_core.specs.Ops.{receipt_of}
 use Rattle.client_core.specs.declared.messages.ClientAnswer.TheVariants as answers
 use Rattle.client_core.specs.declared.messages.ClientAsk.TheVariants as client_asks
 use Rattle.client_core.specs.declared.plan.Op.{Op}
-use Rattle.client_core.proofs.Courses.{IsOnWay, on_way, rests_at}
+use Rattle.client_core.proofs.Courses.{IsOnWay, kept_is, on_way, op_kept, rests_at}
 use Rattle.client_core.proofs.Replayed.{IsIdleAt, client_at}
 use Rattle.histories.proofs.Lists.{at_within}
 use Rattle.run_record.specs.Legal.{EntryAt}
-use Rattle.run_record.specs.Receipts.{fronts_of}
+use Rattle.run_record.specs.Receipts.{HasReceipt, fronts_of, newest_seen}
 use Rattle.run_record.specs.ReplyText.{text_of}
 use Rattle.run_record.specs.declared.run.Listed.{Listed}
 use Rattle.request_run.specs.Entries.{IsGrowth, entries_of}
 use Rattle.request_run.specs.Served.{AreEarlier, AreOtherClients, CameTo, EachOf, IsAskPending, IsTaskReady}
 use Rattle.request_run.specs.Served.{IsTaskServed}
-use Rattle.run_record.proofs.Growing.{AreReceipts-longer}
+use Rattle.run_record.proofs.Growing.{AreReceipts-longer, at_only}
 use Rattle.request_run.proofs.Growing.{EachOf-longer, IsServed-longer}
 use Rattle.request_run.proofs.Rows.{entries-push, length_entries}
 use Rattle.request_run.proofs.Continuing.{for_request, of_task}
 use Rattle.seat_turns.specs.Events.{Comes, HasLearned}
-use Rattle.seat_turns.specs.Kept.{AreNamed, HasReceipt, IsPast, IsSeat, IsWork, IsWorking, newest_seen}
+use Rattle.seat_turns.specs.Kept.{AreNamed, IsPast, IsSeat, IsWork, IsWorking}
 use Rattle.seat_turns.specs.Left.{IsOneMore}
 use Rattle.seat_turns.specs.Ready.{is_done}
 use Rattle.seat_turns.specs.declared.seats.Seat.{Seat}
@@ -94,12 +94,8 @@ longer store after client (inr grew) =
     record {
       more = grew.0 ∷ [];
       is = ap (λ (s : Store MetaEntry). entries_of s.journal) grew.1 ∙ entries-push store.journal (record { entry = grew.0 });
-      own = λ place e at. ap (λ (x : Entry). x.request.client) (sym (only place e at)) ∙ grew.2;
+      own = λ place e at. ap (λ (x : Entry). x.request.client) (sym (at_only grew.0 place e at)) ∙ grew.2;
     }
-  where
-    only : (place : ℕ) (e : Entry) → EntryAt (grew.0 ∷ []) place e → grew.0 ≡ e
-    only zero e at = same_Some grew.0 e at
-    only (suc place) e at = absurd (let f : None ≡ Some e = at in cc)
 
 module _ (C : Settings) (attempts : ℕ) (es more : List Entry) (short : length (es ++ more) ≤ 200000) where
   past_longer : (k : ℕ) (client : ClientView) (receipts : List Listed) → IsPast C attempts es k client receipts → IsPast C attempts (es ++ more) k client receipts
@@ -142,14 +138,11 @@ module _ (C : Settings) (attempts : ℕ) (es more : List Entry) (short : length 
 
   pub seat_longer : (k : ℕ) (seat : Seat) → AreOtherClients more seat.client.script.id → IsSeat C attempts es k seat → IsSeat C attempts (es ++ more) k seat
   seat_longer k seat others h =
-      record {
-        config = h.config;
-        script = h.script;
-        none_gone = h.none_gone;
-        past = past_longer k seat.client seat.receipts h.past;
-        working = working_longer seat.client seat.receipts seat.client.request seat.work
-            (each_own seat.client.request refl) others h.working;
-      }
+      assumption (
+        past_longer k seat.client seat.receipts h.past,
+        working_longer seat.client seat.receipts seat.client.request seat.work
+            (each_own seat.client.request refl) others h.working,
+      )
     where
       each_own : (o : Option Request) → seat.client.request ≡ o → IfSome o (λ request. request.client ≡ seat.client.script.id)
       each_own None is = tt
@@ -279,10 +272,6 @@ ended C attempts journal request front task ask e h = absurd (cc)
 pub has_outcome : (C : Settings) (attempts : ℕ) (journal : List Entry) (request : Request) (front : ℕ) (task : TaskView) (ask : Ask) → IsTaskReady C attempts journal request front task ask → is_done ask ≡ true → (outcome : Outcome) × (task.outcome ≡ Some outcome)
 has_outcome C attempts journal request front task ask h e = let came = ended C attempts journal request front task ask e h in (came.0, came.1)
 
--- the receipt that the client keeps
-kept_is : (c : ClientView) (server : ℕ) (outcome : Outcome) (request : Request) (receipt : Receipt) → client_asks.CallEnd (receipt ∷ []) true ≡ (end_call c server outcome (Some request)).1 → receipt ≡ receipt_of c.op request server c.gone outcome
-kept_is c server outcome request receipt e = cc
-
 module _ (C : Settings) (attempts : ℕ) (es more : List Entry) (k : ℕ) (before after : Seat) (work : Work) (task : TaskView) (next : Ask) (short : length (es ++ more) ≤ 200000) (h : IsSeat C attempts es k before) (is : before.work ≡ Some work) where
   abbrev of : Works C attempts es k before h work
   of = work_of C attempts es k before h work is
@@ -300,23 +289,14 @@ module _ (C : Settings) (attempts : ℕ) (es more : List Entry) (k : ℕ) (befor
   goes_on ready on now =
       let going = still C attempts (es ++ more) of.0.0 work.front task next on ready in
       subst (IsSeat C attempts (es ++ more) k) (sym now)
-      (record {
-        config = h.config;
-        script = h.script;
-        none_gone = h.none_gone;
-        past = past;
-        working = subst
+      (assumption (
+        past,
+        subst
             (λ (o : Option Request). IsWorking C attempts (es ++ more) before.client before.receipts o
             (Some (record work { task = task; ask = next })))
             (sym of.0.1)
-            (record {
-              from = of.1.from;
-              named = named;
-              served = going.0;
-              pending = going.1;
-              server = of.1.server;
-            });
-      })
+            (record { from = of.1.from; named = named; served = going.0; pending = going.1; server = of.1.server }),
+      ))
 
   has_learned : Ready → is_done next ≡ true → HasLearned C k (record before { work = None }) after work.server work.front task → IsSeat C attempts (es ++ more) k after
   has_learned ready done learned =
@@ -380,8 +360,4 @@ module _ (C D : Settings) (attempts k : ℕ) (store : Store MetaEntry) (before :
 -- one operation more has ended, or none
 pub op_comes : (C : Settings) (k : ℕ) (before after : Seat) (work : Work) (b : Bool) → Comes C k before after work b → IsOneMore before.client.op after.client.op
 op_comes C k before after work false comes = inl (ap (λ (s : Seat). s.client.op) comes)
-op_comes C k before after work true comes = inr (ap (λ (c : ClientView). c.op) comes.client ∙ more before.client work.server comes.outcome before.client.request comes.receipt comes.told)
-  where
-    more : (c : ClientView) (server : ℕ) (outcome : Outcome) (o : Option Request) (receipt : Receipt) → client_asks.CallEnd (receipt ∷ []) true ≡ (end_call c server outcome o).1 → (end_call c server outcome o).0.op ≡ c.op + 1
-    more c server outcome None receipt e = absurd (cc)
-    more c server outcome (Some request) receipt e = refl
+op_comes C k before after work true comes = inr (ap (λ (c : ClientView). c.op) comes.client ∙ op_kept before.client work.server comes.outcome before.client.request comes.receipt comes.told)

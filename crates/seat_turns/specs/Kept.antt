@@ -1,5 +1,5 @@
 -- What is kept of a client, from turn to turn.
-use Rattle.std.specs.Prelude.{◌≡◌, ◌⊎◌, ◌≤◌, ◌<◌, ℕ, ◌+◌, List, [], ◌∷◌, All, Option, Some, None, true, length, map}
+use Rattle.std.specs.Prelude.{◌≡◌, ◌≤◌, ◌<◌, ℕ, List, [], All, Option, Some, None, length, map}
 use Rattle.fs_base.specs.Config.{Settings}
 use Rattle.fs_base.specs.declared.call.Request.{Request}
 use Rattle.fs_base.specs.declared.ids.ClientId.{ClientId}
@@ -7,19 +7,13 @@ use Rattle.txn_task.specs.declared.messages.Entry.{Entry}
 use Rattle.client_core.specs.Client.{ClientView, new_client}
 use Rattle.client_core.specs.Courses.{Course, IsFrom, after_courses, receipts_along}
 use Rattle.client_core.specs.Plans.{IsScript}
-use Rattle.run_record.specs.Outcomes.{seen_by}
-use Rattle.run_record.specs.Receipts.{outcome_of, AreReceipts, Rises}
+use Rattle.run_record.specs.Receipts.{AreReceipts, HasReceipt, Rises, newest_seen}
 use Rattle.run_record.specs.declared.run.Listed.{Listed}
 use Rattle.request_run.specs.Served.{EachOf, IsAskPending, IsTaskServed}
 use Rattle.seat_turns.specs.declared.seats.Seat.{Seat}
 use Rattle.seat_turns.specs.declared.seats.Work.{Work}
 
 -- ---- what is done
-
--- the newest version that the last receipt shows
-abbrev pub newest_seen : ℕ → List Listed → ℕ
-newest_seen floor [] = floor
-newest_seen floor (listed ∷ rest) = newest_seen (seen_by (outcome_of listed.receipt)) rest
 
 -- a receipt for each operation that has ended: those that the client's steps have told, and it went on from
 -- there
@@ -34,12 +28,6 @@ pub record IsPast (C : Settings) (attempts : ℕ) (journal : List Entry) (k : �
   pub each : AreReceipts C attempts journal client.script.id receipts
   pub rises : Rises 0 receipts
   pub within : newest_seen 0 receipts ≤ length journal
-
--- some receipt names the entry of this place
-abbrev pub HasReceipt : List Listed → ℕ → Type 0
-HasReceipt [] place = ⊥
-HasReceipt (listed ∷ rest) place =
-    ((listed.receipt.committed ≡ true) × (listed.receipt.version ≡ place + 1)) ⊎ HasReceipt rest place
 
 -- each entry of the client has a receipt
 abbrev pub AreNamed : List Entry → ClientId → List Listed → Type 0

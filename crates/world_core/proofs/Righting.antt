@@ -1,8 +1,6 @@
 -- From clients that have ended to the record of their run.
-use Rattle.std.proofs.Common.{◌≡◌, ◌≢◌, ℕ, zero, suc, ◌+◌, ◌<◌, ◌≤◌, inl, inr, List, [], ◌∷◌, ◌++◌, map, Some, None, Bool, true, false, cond, eqb, length, count_by, refl, sym, ap, subst, ◌∙◌, arith, zero-add}
+use Rattle.std.proofs.Common.{◌≡◌, ◌≢◌, ℕ, zero, suc, ◌+◌, ◌<◌, List, [], ◌∷◌, ◌++◌, map, Some, None, true, length, count_by, refl, sym, ap, subst, ◌∙◌, arith, zero-add}
 use Rattle.std.specs.Prelude.{slice_get}
-use Rattle.std.proofs.lemmas.Bool.{and_parts, and_from, cases_Bool, eqb-true, eq-eqb}
-use Rattle.std.proofs.lemmas.List.Sums.{sum_by-append, sum_by-cons}
 use Rattle.std.proofs.lemmas.Option.{same_Some}
 use Rattle.fs_base.specs.Config.{Settings}
 use Rattle.fs_base.specs.declared.ids.ClientId.{ClientId}
@@ -18,25 +16,23 @@ use Rattle.client_core.specs.Plans.{AreDistinct}
 use Rattle.client_core.specs.Scripts.{scripts_in}
 use Rattle.client_core.specs.declared.plan.Script.{Script}
 use Rattle.run_record.specs.Legal.{EntryAt, journal_rows, tree_at}
-use Rattle.run_record.specs.Receipts.{AreReceipts, IsReceipt, IsSection}
+use Rattle.run_record.specs.Receipts.{HasReceipt, IsSection}
 use Rattle.run_record.specs.Right.{AreSections, IsRightRecord, IsRightEntry, names_place, summary_of}
-use Rattle.run_record.specs.declared.run.Listed.{Listed}
 use Rattle.run_record.specs.declared.run.Record.{Record}
 use Rattle.client_core.proofs.Courses.{numbered}
 use Rattle.client_core.proofs.Ending.{ended_is}
 use Rattle.client_core.proofs.Scripts.{scripts_are}
-use Rattle.run_record.proofs.Naming.{naming}
+use Rattle.run_record.proofs.Named.{none_other, one_receipt}
+use Rattle.run_record.proofs.Naming.{naming, naming-append}
 use Rattle.request_run.specs.Served.{AreCovered}
-use Rattle.seat_turns.specs.Kept.{HasReceipt, IsSeat}
+use Rattle.seat_turns.specs.Kept.{IsSeat}
 use Rattle.request_run.specs.Entries.{entries_of}
 use Rattle.run_record.specs.Sound.{IsSoundJournal}
 use Rattle.seat_turns.specs.Seats.{AreSeated, HaveEnded, receipts_in, scripts_of_seats}
 use Rattle.world_core.specs.World.{WorldView, plan_of_world}
 use Rattle.seat_turns.specs.declared.seats.Seat.{Seat}
 use Rattle.request_run.proofs.Covered.{all_touched}
-use Rattle.request_run.proofs.Ending.{no_refusal}
-use Rattle.run_record.proofs.History.{at_there, entry_sound, legal, rows_ascend, rows_tree}
-use Rattle.seat_turns.proofs.Receiving.{names_is}
+use Rattle.run_record.proofs.History.{at_there, entry_sound, legal, no_refusal, rows_ascend, rows_tree}
 use Rattle.seat_turns.proofs.Seating.{one_seat}
 use Rattle.seat_turns.proofs.Working.{unsent}
 
@@ -99,60 +95,12 @@ all_sections C attempts journal seats seated ended =
 
 -- ---- each entry has one receipt
 
-naming_both : (place : ℕ) (own rest : List Listed) → naming place (own ++ rest) ≡ naming place own + naming place rest
-naming_both place own rest = sum_by-append (λ (r : Listed). cond (names_place place r) 1 0) own rest
-
--- the first receipt and the others
-counted : (place : ℕ) (listed : Listed) (rest : List Listed) (b : Bool) → names_place place listed ≡ b → naming place (listed ∷ rest) ≡ cond b 1 0 + naming place rest
-counted place listed rest b is = sum_by-cons (λ (r : Listed). cond (names_place place r) 1 0) listed rest ∙ ap (λ (c : Bool). cond c 1 0 + naming place rest) is
-
-module _ (C : Settings) (attempts : ℕ) (journal : List Entry) (place : ℕ) (e : Entry) (at : EntryAt journal place e) where
-  named_is : (client : ClientId) (listed : Listed) → IsReceipt C attempts journal client listed → names_place place listed ≡ true → (e.request.client ≡ client) × (listed.receipt.number ≡ Some e.request.number)
-  named_is client listed receipt names =
-      let parts : (listed.receipt.committed ≡ true) × (eqb listed.receipt.version (place + 1) ≡ true) = and_parts listed.receipt.committed (eqb listed.receipt.version (place + 1)) names in
-      names_is C attempts journal place e at client listed receipt (parts.0, eqb-true listed.receipt.version (place + 1) parts.1)
-
-  -- another client's receipts don't name it
-  none_other : (client : ClientId) (receipts : List Listed) → e.request.client ≢ client → AreReceipts C attempts journal client receipts → naming place receipts ≡ 0
-  none_other client [] n h = refl
-  none_other client (listed ∷ rest) n h = elim (cases_Bool (names_place place listed)) [
-    | inl names ↦ absurd (n (named_is client listed h.0 names).0)
-    | inr other ↦ omega (arith, counted place listed rest false other, none_other client rest n h.1)
-  ]
-
-  -- nor do receipts of later operations
-  none_later : (client : ClientId) (op last : ℕ) (receipts : List Listed) → e.request.number ≤ op → AreReceipts C attempts journal client receipts
-      → AreNumbered op (map (λ (l : Listed). l.receipt) receipts) last → naming place receipts ≡ 0
-  none_later client op last [] l h numbers = refl
-  none_later client op last (listed ∷ rest) l h numbers = elim (cases_Bool (names_place place listed)) [
-    | inl names ↦ absurd (let n : e.request.number ≡ op + 1 = same_Some e.request.number (op + 1) (sym (named_is client listed h.0 names).1 ∙ numbers.1) in omega arith)
-    | inr other ↦ omega (arith, counted place listed rest false other, none_later client (op + 1) last rest (omega arith) h.1 numbers.2)
-  ]
-
-  -- of a client's receipts one does
-  one_receipt : (client : ClientId) (op last : ℕ) (receipts : List Listed) → AreReceipts C attempts journal client receipts
-      → AreNumbered op (map (λ (l : Listed). l.receipt) receipts) last → HasReceipt receipts place → naming place receipts ≡ 1
-  one_receipt client op last [] h numbers has = absurd has
-  one_receipt client op last (listed ∷ rest) h numbers has = elim (cases_Bool (names_place place listed)) [
-    | inl names ↦
-        (let number : e.request.number ≡ op + 1 = same_Some e.request.number (op + 1) (sym (named_is client listed h.0 names).1 ∙ numbers.1) in
-        let none : naming place rest ≡ 0 = none_later client (op + 1) last rest (omega arith) h.1 numbers.2 in
-        let first : naming place (listed ∷ rest) ≡ 1 + naming place rest = counted place listed rest true names in
-        omega arith)
-    | inr other ↦ elim has [
-      | inl here ↦ absurd (let f : true ≡ false = sym (and_from listed.receipt.committed (eqb listed.receipt.version (place + 1)) here.0 (eq-eqb listed.receipt.version (place + 1) here.1)) ∙ other in cc)
-      | inr later ↦ omega (arith, counted place listed rest false other, one_receipt client (op + 1) last rest h.1 numbers.2 later)
-    ]
-  ]
-
--- ---- and of all receipts
-
 none_in : (place : ℕ) (seats : List Seat) → ((j : ℕ) (z : Seat) → slice_get seats j ≡ Some z → naming place z.receipts ≡ 0) → naming place (receipts_in seats) ≡ 0
 none_in place [] none = refl
 none_in place (seat ∷ seats) none =
     let first : naming place seat.receipts ≡ 0 = none 0 seat refl in
     let others : naming place (receipts_in seats) ≡ 0 = none_in place seats (λ j z at. none (suc j) z at) in
-    let both : naming place (seat.receipts ++ receipts_in seats) ≡ naming place seat.receipts + naming place (receipts_in seats) = naming_both place seat.receipts (receipts_in seats) in
+    let both : naming place (seat.receipts ++ receipts_in seats) ≡ naming place seat.receipts + naming place (receipts_in seats) = naming-append place seat.receipts (receipts_in seats) in
     omega arith
 
 one_in : (place : ℕ) (seats : List Seat) (k : ℕ) (x : Seat) → slice_get seats k ≡ Some x → naming place x.receipts ≡ 1 → ((j : ℕ) (z : Seat) → j ≢ k → slice_get seats j ≡ Some z → naming place z.receipts ≡ 0) → naming place (receipts_in seats) ≡ 1
@@ -160,12 +108,12 @@ one_in place [] k x at one none = absurd (let n : None ≡ Some x = at in cc)
 one_in place (seat ∷ seats) zero x at one none =
     let first : naming place seat.receipts ≡ 1 = ap (λ (w : Seat). naming place w.receipts) (same_Some seat x at) ∙ one in
     let others : naming place (receipts_in seats) ≡ 0 = none_in place seats (λ j z at_z. none (suc j) z (λ same. omega arith) at_z) in
-    let both : naming place (seat.receipts ++ receipts_in seats) ≡ naming place seat.receipts + naming place (receipts_in seats) = naming_both place seat.receipts (receipts_in seats) in
+    let both : naming place (seat.receipts ++ receipts_in seats) ≡ naming place seat.receipts + naming place (receipts_in seats) = naming-append place seat.receipts (receipts_in seats) in
     omega arith
 one_in place (seat ∷ seats) (suc k) x at one none =
     let first : naming place seat.receipts ≡ 0 = none 0 seat (λ same. omega arith) refl in
     let others : naming place (receipts_in seats) ≡ 1 = one_in place seats k x at one (λ j z apart at_z. none (suc j) z (λ same. apart (omega arith)) at_z) in
-    let both : naming place (seat.receipts ++ receipts_in seats) ≡ naming place seat.receipts + naming place (receipts_in seats) = naming_both place seat.receipts (receipts_in seats) in
+    let both : naming place (seat.receipts ++ receipts_in seats) ≡ naming place seat.receipts + naming place (receipts_in seats) = naming-append place seat.receipts (receipts_in seats) in
     omega arith
 
 pub named_once : (C : Settings) (attempts : ℕ) (journal : List Entry) (seats : List Seat) → AreDistinct (scripts_of_seats seats) → AreSeated C attempts journal seats → HaveEnded seats → (place : ℕ) → place < length journal → count_by (names_place place) (receipts_in seats) ≡ 1

@@ -2,9 +2,8 @@ use Rattle.std.proofs.Common.{◌≡◌, ◌<◌, ◌≤◌, ◌∙◌, ℕ, len
 use Rattle.world_core.specs.Order.{IsRoundTo}
 use Rattle.world_core.specs.World.{WorldView}
 use Rattle.seat_turns.proofs.Ahead.{ahead_more}
-use Rattle.world_core.proofs.OrderLaws.{op_ahead}
 use Rattle.world_core.proofs.Closing.{same_seats}
-use Rattle.world_core.proofs.OrderLaws.{round_on}
+use Rattle.world_core.proofs.OrderLaws.{op_ahead, round_on}
 use Rattle.world_core.proofs.world.World.round.Goals as goal
 
 pub op-requires : goal.op-requires
