@@ -5,6 +5,7 @@ ghost use Rattle.op_attr.specs.Attr.{IsAttrCall};
 ghost use Rattle.op_create.specs.Create.{IsCreateCall};
 ghost use Rattle.op_link.specs.Link.{IsLinkCall};
 ghost use Rattle.op_rename.specs.Rename.{IsRenameCall};
+ghost use Rattle.op_session.specs.Session.{IsSessionCall};
 ghost use Rattle.meta_task.specs.Ops.{IsFirstOp, IsOpReady, IsOfKind, op_config, op_effect, op_areas};
 
 use fs_base::{Call, Config, Memory, Request};
@@ -12,6 +13,7 @@ use op_attr::AttrTask;
 use op_create::CreateTask;
 use op_link::LinkTask;
 use op_rename::RenameTask;
+use op_session::SessionTask;
 use std::alloc::Global;
 use txn_task::{Answer, OpStep, Txn};
 
@@ -25,6 +27,8 @@ pub enum OpTask {
     /// link, unlink or rmdir.
     Link(LinkTask),
     Rename(RenameTask),
+    /// open, openr, extend or fstat.
+    Session(SessionTask),
 }
 
 /// Which of these tasks does a call.
@@ -34,6 +38,7 @@ enum TaskKind {
     Create,
     Link,
     Rename,
+    Session,
 }
 
 fn kind_of(call: &Call) -> TaskKind
@@ -48,6 +53,10 @@ fn kind_of(call: &Call) -> TaskKind
         Call::Unlink(_) => TaskKind::Link,
         Call::Rmdir(_) => TaskKind::Link,
         Call::Rename { .. } => TaskKind::Rename,
+        Call::Openr(_) => TaskKind::Session,
+        Call::Open(_) => TaskKind::Session,
+        Call::Fstat(_) => TaskKind::Session,
+        Call::Extend { .. } => TaskKind::Session,
         _ => TaskKind::Attr,
     }
 }
@@ -88,6 +97,15 @@ fn rename(alloc: Global, request: &Request, config: &Config) -> Result<OpTask, M
     Ok(OpTask::Rename(task))
 }
 
+fn session(alloc: Global, request: &Request, config: &Config) -> Result<OpTask, Memory>
+    requires valid { IsRequest config.now request.now }
+    requires call { IsSessionCall request.now.call }
+    ensures { IfOk result (λ op. IsFirstOp config.now request.now op) }
+{
+    let task = SessionTask::new(alloc, request, config)?;
+    Ok(OpTask::Session(task))
+}
+
 impl OpTask {
     /// The operation of a request, before its first step.
     pub fn new(alloc: Global, request: &Request, config: &Config) -> Result<OpTask, Memory>
@@ -99,6 +117,7 @@ impl OpTask {
             TaskKind::Create => create(alloc, request, config),
             TaskKind::Link => link(alloc, request, config),
             TaskKind::Rename => rename(alloc, request, config),
+            TaskKind::Session => session(alloc, request, config),
         }
     }
 
@@ -127,6 +146,10 @@ impl OpTask {
                 Ok(step)
             }
             OpTask::Rename(task) => {
+                let step = task.next(alloc, answer, txn)?;
+                Ok(step)
+            }
+            OpTask::Session(task) => {
                 let step = task.next(alloc, answer, txn)?;
                 Ok(step)
             }

@@ -24,6 +24,7 @@ use Rattle.tree_model.specs.Walk.{resolve}
 use Rattle.tree_model.specs.declared.new_node.NewNode.{NewNode}
 use Rattle.tree_model.proofs.LinkingLaws.{link_is, unlink_is, rmdir_is}
 use Rattle.tree_model.proofs.RenameLaws.{rename_is}
+use Rattle.tree_model.proofs.SessionLaws.{extend_is, open_to_write_is}
 use Rattle.tree_model.specs.declared.walk.WalkEnd.TheVariants.{Follow, Parent}
 use Rattle.fs_base.specs.declared.call.Place.{Place}
 use Rattle.fs_base.specs.declared.code.Code.TheVariants.{NotFound, NotDir}
@@ -98,4 +99,10 @@ update_refuses C T q (calls.Unlink place) built is = unlink_is Refusing T q.stam
 update_refuses C T q (calls.Rmdir place) built is = rmdir_is Refusing T q.stamp (λ code. refl) (λ dir name id. refl) place
 update_refuses C T q (calls.Rename from to) built is =
     rename_is Refusing T q.stamp (λ code. refl) refl (λ a b id. refl) (λ a b id dir name old. refl) (λ a b id dir name old node at. refl) (λ a b id dir name old node at. refl) from to
+update_refuses C T q (calls.Open place) built is =
+    open_to_write_is Refusing T (λ code. refl) q.client q.number (λ file. refl) place
+update_refuses C T q (calls.Extend session place) built is =
+    extend_is Refusing T (λ code. refl) place (λ id node length truncs layout hint at file within. refl) q.client session
+update_refuses C T q (calls.Openr place) built is = cc
+update_refuses C T q (calls.Fstat session) built is = cc
 update_refuses C T q _ built is = unbuilt built

@@ -1,4 +1,4 @@
-//! open, openr, extend and fstat over rows as they are read. No request is done by them yet.
+//! open, openr, extend and fstat over rows as they are read. No operation of a script sends them yet.
 #![tactic(auto)]
 
 mod held;

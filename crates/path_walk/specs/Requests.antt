@@ -1,19 +1,13 @@
 -- A request that a server takes.
-use Rattle.std.specs.Prelude.{◌≤◌, ◌<◌, Bool, false, IsTrue}
+use Rattle.std.specs.Prelude.{◌≤◌, ◌<◌, Bool, IsTrue}
 use Rattle.fs_base.specs.Config.{Settings}
 use Rattle.fs_base.specs.declared.call.Call.{Call}
-use Rattle.fs_base.specs.declared.call.Call.TheVariants as calls
 use Rattle.fs_base.specs.declared.call.Request.{Request}
 use Rattle.row_records.specs.Calls.{is_call}
 use Rattle.tree_model.specs.Calls.{is_told}
 
--- the calls that an operation does: those whose effect is told, but for the four of write sessions, which none
--- does yet
+-- the calls that an operation does: all whose effect is told
 abbrev pub is_built : Call → Bool
-is_built (calls.Openr place) = false
-is_built (calls.Fstat session) = false
-is_built (calls.Open place) = false
-is_built (calls.Extend session place) = false
 is_built call = is_told call
 
 -- a call that is built, its numbers in their ranges, from a number of 1 on, at one of the servers

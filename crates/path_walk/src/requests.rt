@@ -8,8 +8,5 @@ use tree_model::is_told;
 pub fn is_built(call: &Call) -> bool
     ensures { result ≡ is_built call.now }
 {
-    match call {
-        Call::Openr(_) | Call::Fstat(_) | Call::Open(_) | Call::Extend { .. } => false,
-        _ => is_told(call),
-    }
+    is_told(call)
 }

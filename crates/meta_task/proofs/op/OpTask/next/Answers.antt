@@ -5,6 +5,7 @@ use Rattle.op_attr.specs.Attr as attr
 use Rattle.op_create.specs.Create as create
 use Rattle.op_link.specs.Link as link
 use Rattle.op_rename.specs.Rename as rename
+use Rattle.op_session.specs.Session as session
 use Rattle.meta_task.specs.declared.op.OpTask.{OpTask}
 use Rattle.meta_task.proofs.op.OpTask.next.Goals as goal
 
@@ -26,3 +27,8 @@ pub returns-in_ok-step-in-Rename-clause-step : goal.returns-in_ok-step-in-Rename
 returns-in_ok-step-in-Rename-clause-step c =
     subst (λ (o : OpTask). HasStepped (op_config o) (op_areas o) (rename.rename_areas c.next-in-Rename.new.self) (op_effect o) (rename.rename_effect c.next-in-Rename.new.self) c.args.txn.now c.next-in-Rename.new.txn c.in_ok-step-in-Rename.step) (sym c.in-Rename.is)
     c.in_ok-step-in-Rename.ensures.step
+
+pub returns-in_ok-step-in-Session-clause-step : goal.returns-in_ok-step-in-Session-clause-step
+returns-in_ok-step-in-Session-clause-step c =
+    subst (λ (o : OpTask). HasStepped (op_config o) (op_areas o) (session.session_task_areas c.next-in-Session.new.self) (op_effect o) (session.session_effect c.next-in-Session.new.self) c.args.txn.now c.next-in-Session.new.txn c.in_ok-step-in-Session.step) (sym c.in-Session.is)
+    c.in_ok-step-in-Session.ensures.step
