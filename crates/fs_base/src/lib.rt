@@ -28,4 +28,5 @@ pub use memory::Memory;
 pub use name::{Name, NameError};
 pub use path::{Path, PathError};
 pub use reply::{Attributes, DataRun, DeletionPhase, DirEntry, DoomedInode, FileInfo, Reply};
+pub use reply_copy::copy_file;
 pub use row::Row;

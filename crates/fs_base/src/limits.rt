@@ -8,6 +8,11 @@ pub const CLIENTS: usize = 64;
 /// Operations of all clients of a plan.
 pub const OPERATIONS: usize = 4_000;
 
+/// Planned stops of a plan.
+pub const STOPS: usize = 64;
+/// Asks of a server, or entries that it made, after which it may stop.
+pub const STOP_COUNT: u32 = 1_000_000;
+
 /// Metadata servers of a configuration.
 pub const SERVERS: u8 = 16;
 /// Storage nodes of a configuration.

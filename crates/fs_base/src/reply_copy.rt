@@ -66,7 +66,8 @@ fn copy_attributes(from: &Attributes) -> Attributes
     }
 }
 
-fn copy_file(from: &FileInfo) -> FileInfo
+/// An equal one.
+pub fn copy_file(from: &FileInfo) -> FileInfo
     ensures { result ≡ from.now }
 {
     FileInfo {

@@ -19,18 +19,7 @@ fn reparented(part: InodePart, parent: InodeId) -> InodePart
             chunk,
             stripe,
         },
-        InodePart::File {
-            length,
-            truncs,
-            layout,
-            hint,
-        } => InodePart::File {
-            length,
-            truncs,
-            layout,
-            hint,
-        },
-        InodePart::Link { target } => InodePart::Link { target },
+        other => other,
     }
 }
 
@@ -39,14 +28,8 @@ fn under(row: InodeRow, parent: InodeId) -> InodeRow
     ensures { result ≡ rows.under parent row }
 {
     InodeRow {
-        mode: row.mode,
-        owner: row.owner,
-        group: row.group,
-        links: row.links,
-        atime: row.atime,
-        mtime: row.mtime,
-        ctime: row.ctime,
         part: reparented(row.part, parent),
+        ..row
     }
 }
 

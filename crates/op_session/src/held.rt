@@ -20,15 +20,6 @@ fn part_hinted(part: InodePart, hint: u16) -> InodePart
     ensures { result ≡ part_hinted hint part }
 {
     match part {
-        InodePart::Dir {
-            parent,
-            chunk,
-            stripe,
-        } => InodePart::Dir {
-            parent,
-            chunk,
-            stripe,
-        },
         InodePart::File {
             length,
             truncs,
@@ -40,7 +31,7 @@ fn part_hinted(part: InodePart, hint: u16) -> InodePart
             layout,
             hint,
         },
-        InodePart::Link { target } => InodePart::Link { target },
+        other => other,
     }
 }
 
@@ -48,14 +39,8 @@ fn hinted(row: InodeRow, hint: u16) -> InodeRow
     ensures { result ≡ hinted_row hint row }
 {
     InodeRow {
-        mode: row.mode,
-        owner: row.owner,
-        group: row.group,
-        links: row.links,
-        atime: row.atime,
-        mtime: row.mtime,
-        ctime: row.ctime,
         part: part_hinted(row.part, hint),
+        ..row
     }
 }
 

@@ -7,11 +7,10 @@ ghost use Rattle.tree_model.specs.Moving.{moved};
 
 use crate::kept::{Doom, KeptReply};
 use crate::plan::{Child, Fate, Shift};
-use crate::sessions::copy_file;
 use crate::setattr::{change_node, hint_node, touch_node};
 use crate::tree::Tree;
 use fs_base::limits::LAST_NUMBER;
-use fs_base::{Changes, Code, FileInfo, InodeId, Memory, Name, Reply, Request};
+use fs_base::{Changes, Code, FileInfo, InodeId, Memory, Name, Reply, Request, copy_file};
 use std::alloc::Global;
 
 impl Tree {

@@ -51,19 +51,6 @@ fn opened_node(id: InodeId, node: Option<&Node>) -> Result<FileInfo, Code>
     }
 }
 
-/// An equal one.
-pub(crate) fn copy_file(file: &FileInfo) -> FileInfo
-    ensures { result ≡ file.now }
-{
-    FileInfo {
-        inode: InodeId::new(file.inode.get()),
-        length: file.length,
-        truncs: file.truncs,
-        layout: file.layout,
-        hint: file.hint,
-    }
-}
-
 impl Tree {
     fn opened_of_kind(&self, kind: Kind, id: InodeId) -> Result<FileInfo, Code>
         ensures { result ≡ opened_at self.now.tree (Walked.At id kind) }
