@@ -1,9 +1,11 @@
 //! Scripts told ask by ask. Expected asks are worked out from the form of requests and receipts.
 
-ghost use Rattle.std.specs.Prelude.{◌≡◌, ◌≤◌, None, length, All, IfOk};
+ghost use Rattle.std.specs.Prelude.{◌≡◌, ◌≤◌, None, length, All, IfOk, OnOk};
 ghost use Rattle.client_core.specs.Awaiting.{Awaits};
 ghost use Rattle.client_core.specs.Client.{FitsClient};
+ghost use Rattle.client_core.specs.Files.{IsFileSound, ShowsSound};
 ghost use Rattle.client_core.specs.Plans.{IsOp, IsPlace};
+ghost use Rattle.fs_base.specs.Config.{Settings};
 
 use client_core::{ClientAnswer, ClientAsk, ClientState, Op, Script};
 use fs_base::{ClientId, Code, Config, InodeId, Items, Memory, Place, Reply, Text};
@@ -23,7 +25,7 @@ const TOLD: &str =
 2 true Ended
 2 true Ended"#;
 
-fn place(alloc: Global) -> Result<Place, Memory>
+pub(crate) fn place(alloc: Global) -> Result<Place, Memory>
     ensures { IfOk result (λ place. IsPlace place) }
 {
     Ok(Place {
@@ -46,10 +48,11 @@ fn two(alloc: Global) -> Result<Items<Op>, Memory>
 }
 
 /// A client of server 2 of three.
-fn client(alloc: Global, ops: Items<Op>) -> Result<ClientState, Fail>
+pub(crate) fn client(alloc: Global, ops: Items<Op>) -> Result<ClientState, Fail>
     requires few { length ops ≤ 4000 }
     requires valid { All IsOp ops }
-    ensures { IfOk result (λ client. client.request ≡ None) }
+    ensures idle { IfOk result (λ client. client.request ≡ None) }
+    ensures chain { IfOk result (λ client. client.config.chains ≡ 1) }
 {
     let config = Config::new(3, 1, 1, 1, 1).ok_or("no configuration")?;
     Ok(ClientState::new(
@@ -64,7 +67,9 @@ fn client(alloc: Global, ops: Items<Op>) -> Result<ClientState, Fail>
 }
 
 /// The first request meets a conflict with the key of an inode and is committed; another one is refused.
-fn outcome(alloc: Global, number: u64) -> Result<Outcome, Memory> {
+fn outcome(alloc: Global, number: u64) -> Result<Outcome, Memory>
+    ensures { (C : Settings) → IfOk result (λ outcome. IsFileSound C outcome.reply) }
+{
     let mut conflicts = Items::new(alloc);
     if number != 1 {
         return Ok(Outcome {
@@ -83,9 +88,11 @@ fn outcome(alloc: Global, number: u64) -> Result<Outcome, Memory> {
     })
 }
 
-fn next(client: &mut ClientState, answer: ClientAnswer) -> Result<ClientAsk, Memory>
-    requires { FitsClient client.old.request answer }
-    ensures { IfOk result (λ ask. Awaits client.new.request ask) }
+pub(crate) fn next(client: &mut ClientState, answer: ClientAnswer) -> Result<ClientAsk, Memory>
+    requires fits { FitsClient client.old.request answer }
+    requires files { ShowsSound client.old.config answer }
+    ensures awaits { IfOk result (λ ask. Awaits client.new.request ask) }
+    ensures config { OnOk result (client.new.config ≡ client.old.config) }
 {
     let ask = client.next(answer)?;
     Ok(ask)

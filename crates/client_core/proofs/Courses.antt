@@ -9,15 +9,18 @@ use Rattle.txn_task.specs.declared.outcome.Receipt.{Receipt}
 use Rattle.client_core.specs.Client.{ClientView, client_step, end_call, new_client, send}
 use Rattle.client_core.specs.Courses.{Course, IsFrom, AreNumbered, after_course, after_courses, gone_at, receipts_along}
 use Rattle.client_core.specs.Courses.{receipts_of_ask, replied, sent_again}
+use Rattle.client_core.specs.Descriptors.{none_open}
 use Rattle.client_core.specs.Moved.{gone_from, server_after_stops}
 use Rattle.client_core.specs.Ops.{receipt_of}
 use Rattle.client_core.specs.Plans.{IsScript}
 use Rattle.client_core.specs.declared.messages.ClientAnswer.TheVariants as answers
 use Rattle.client_core.specs.declared.messages.ClientAsk.{ClientAsk}
 use Rattle.client_core.specs.declared.messages.ClientAsk.TheVariants as asks
+use Rattle.client_core.specs.declared.descriptors.Descriptor.{Descriptor}
 use Rattle.client_core.specs.declared.plan.Op.{Op}
 use Rattle.client_core.specs.declared.plan.Script.{Script}
-use Rattle.client_core.proofs.Replayed.{IsIdleAt, again_there, answered_end, answered_there, client_at, ended_there, sent_at}
+use Rattle.client_core.proofs.Moved.{moved_below}
+use Rattle.client_core.proofs.Replayed.{IsIdleAt, again_there, answered_end, answered_there, client_at, course_open, ended_there, sent_at}
 use Rattle.client_core.proofs.Replayed.{replayed_idle, request_at, there_or_end}
 
 -- ---- one more
@@ -69,18 +72,20 @@ module _ (C : Settings) (script : Script) where
     pub step : Op
     pub there : slice_get script.ops op ≡ Some step
     pub server : ℕ
+    pub below : server < C.servers
+    pub descriptors : List (Option Descriptor)
     pub gone : List (ℕ × ℕ)
-    pub is : c ≡ record (client_at C script server op) { number = op + 1; gone = gone; request = Some request }
-    pub request_is : request ≡ request_at C script server op step
+    pub is : c ≡ record (client_at C script descriptors server op) { number = op + 1; gone = gone; request = Some request }
+    pub request_is : request ≡ request_at C script descriptors server op step
 
   pub on_way : (rest c : ClientView) (request : Request) (h : IsIdleAt C script rest) → IsFrom rest c (Some request)
       → IsOnWay h.op c request
   on_way rest c request h from = elim (there_or_end C script script.ops h.op) [ inl there ↦ there_is there.0 there.1 | inr end ↦ none_left end ]
     where
       sends : (o : Option Op) → slice_get script.ops h.op ≡ o
-          → sent_again from.0 (send (client_at C script h.server h.op) o) ≡ (c, asks.Send c.server request)
+          → sent_again from.0 (send (client_at C script h.descriptors h.server h.op) o) ≡ (c, asks.Send c.server request)
       sends o is =
-          ap (λ (p : Option Op). sent_again from.0 (send (client_at C script h.server h.op) p)) (sym is)
+          ap (λ (p : Option Op). sent_again from.0 (send (client_at C script h.descriptors h.server h.op) p)) (sym is)
           ∙ (ap (λ (v : ClientView). sent_again from.0 (client_step v answers.Next)) (sym h.is) ∙ from.1)
 
       asked_is : (m n : ℕ) (p q : Request) → asks.Send m p ≡ asks.Send n q → p ≡ q
@@ -90,17 +95,19 @@ module _ (C : Settings) (script : Script) where
       there_is step there =
           let last : ℕ = server_after_stops C h.server from.0 in
           let gone : List (ℕ × ℕ) = gone_from C h.server from.0 in
-          let both : sent_at C script last gone h.op step ≡ (c, asks.Send c.server request)
-          = sym (again_there C script from.0 h.server [] h.op step) ∙ sends (Some step) there in
-          let request_is : request_at C script last h.op step ≡ request
-          = asked_is last c.server (request_at C script last h.op step) request (ap (λ (p : ClientView × ClientAsk). p.1) both) in
+          let both : sent_at C script h.descriptors last gone h.op step ≡ (c, asks.Send c.server request)
+          = sym (again_there C script from.0 h.descriptors h.server [] h.op step) ∙ sends (Some step) there in
+          let request_is : request_at C script h.descriptors last h.op step ≡ request
+          = asked_is last c.server (request_at C script h.descriptors last h.op step) request (ap (λ (p : ClientView × ClientAsk). p.1) both) in
           record {
             step = step;
             there = there;
             server = last;
+            below = moved_below C h.server from.0 h.below;
+            descriptors = h.descriptors;
             gone = gone;
             is = sym (ap (λ (p : ClientView × ClientAsk). p.0) both)
-                ∙ ap (λ (q : Request). record (client_at C script last h.op) { number = h.op + 1; gone = gone; request = Some q }) request_is;
+                ∙ ap (λ (q : Request). record (client_at C script h.descriptors last h.op) { number = h.op + 1; gone = gone; request = Some q }) request_is;
             request_is = sym request_is;
           }
 
@@ -111,33 +118,33 @@ module _ (C : Settings) (script : Script) where
       none_left end =
           absurd (apart c.server request
           (ap (λ (p : ClientView × ClientAsk). p.1)
-          (sym (ended_there C script from.0 h.server h.op end) ∙ sends None end)))
+          (sym (ended_there C script from.0 h.descriptors h.server h.op end) ∙ sends None end)))
 
   -- ---- numbers
 
-  numbered_at : (courses : List Course) (server op : ℕ)
-      → AreNumbered op (receipts_along (client_at C script server op) courses) (after_courses (client_at C script server op) courses).op
-  numbered_at [] server op = refl
-  numbered_at (course ∷ courses) server op = elim (there_or_end C script script.ops op) [
+  numbered_at : (courses : List Course) (descriptors : List (Option Descriptor)) (server op : ℕ)
+      → AreNumbered op (receipts_along (client_at C script descriptors server op) courses) (after_courses (client_at C script descriptors server op) courses).op
+  numbered_at [] descriptors server op = refl
+  numbered_at (course ∷ courses) descriptors server op = elim (there_or_end C script script.ops op) [
     | inl there ↦
         subst (λ (p : ClientView × ClientAsk). AreNumbered op (receipts_of_ask p.1 ++ receipts_along p.0 courses) (after_courses p.0 courses).op)
-        (sym (answered_there C script server op there.0 course there.1))
-        (refl, refl, numbered_at courses (server_after_stops C server course.stops) (op + 1))
+        (sym (answered_there C script descriptors server op there.0 course there.1))
+        (refl, refl, numbered_at courses (course_open C script descriptors server op there.0 course) (server_after_stops C server course.stops) (op + 1))
     | inr end ↦
         subst (λ (p : ClientView × ClientAsk). AreNumbered op (receipts_of_ask p.1 ++ receipts_along p.0 courses) (after_courses p.0 courses).op)
-        (sym (answered_end C script server op course end))
-        (numbered_at courses server op)
+        (sym (answered_end C script descriptors server op course end))
+        (numbered_at courses descriptors server op)
   ]
 
   -- of a client that has done nothing before
   pub numbered : (courses : List Course)
       → AreNumbered 0 (receipts_along (new_client C script) courses) (after_courses (new_client C script) courses).op
-  numbered courses = numbered_at courses script.home 0
+  numbered courses = numbered_at courses none_open script.home 0
 
   pub rests_at : (courses : List Course) → IsScript C.servers script → IsIdleAt C script (after_courses (new_client C script) courses)
   rests_at courses is =
       replayed_idle C script (new_client C script) courses
-      (record { op = 0; server = script.home; is = refl; below = is.home; within = omega arith })
+      (record { op = 0; server = script.home; descriptors = none_open; is = refl; below = is.home; within = omega arith })
 
   -- a client is at the operation of the one that it went on from
   pub same_op : (rest c : ClientView) (o : Option Request) → IsIdleAt C script rest → IsFrom rest c o → c.op ≡ rest.op

@@ -8,8 +8,9 @@ use Rattle.byte_fields.specs.Forms.{Form, are_bytes}
 use Rattle.byte_fields.proofs.Bytes.{are_bytes_by}
 use Rattle.fs_base.specs.declared.call.Changes.{Changes}
 use Rattle.fs_base.specs.declared.call.Place.{Place}
+use Rattle.fs_base.specs.declared.call.Session.{Session}
 use Rattle.fs_base.specs.declared.layout.DefaultLayout.{DefaultLayout}
-use Rattle.row_records.specs.Calls.{place, default_layout, made, changes, call, stamped_call, is_call}
+use Rattle.row_records.specs.Calls.{place, session, default_layout, made, changes, call, stamped_call, is_call}
 use Rattle.client_core.specs.Plans.{IsOp, IsPlace, IsGivenLayout, IsChanges}
 use Rattle.client_core.specs.declared.plan.Op.{Op}
 use Rattle.client_core.specs.declared.plan.Op.TheVariants as ops
@@ -110,6 +111,10 @@ changes_fits c h =
     (and_from ((optional time).fits c.atime) _ (below_fits time (2 ^ 53) time_fits c.atime h.atime_below)
     (below_fits time (2 ^ 53) time_fits c.mtime h.mtime_below))))
 
+session_fits : (s : Session) → s.inode < 2 ^ 36 → s.number < 2 ^ 64 → session.fits s ≡ true
+unfolding session
+session_fits s inode number = and_from (inode_id.fits s.inode) (number_8.fits s.number) (inode_fits s.inode inode) (fits_8 s.number number)
+
 -- ---- the calls
 
 two_places : (stamp : ℕ) (from to : Place) → (stamp < 2 ^ 53) × IsPlace from × IsPlace to → (are_bytes from.text ≡ true) × (are_bytes to.text ≡ true)
@@ -118,34 +123,40 @@ two_places stamp from to h are =
     and_from (time.fits stamp) (place.fits from && place.fits to) (time_fits stamp h.0)
     (and_from (place.fits from) (place.fits to) (place_fits from h.1 are.0) (place_fits to h.2 are.1))
 
-pub op_fits : (step : Op) → IsOp step → HasBytes step → IsTrue (is_call (stamp_of step, call_of step))
+pub op_fits : (s : Session) (step : Op) → s.inode < 2 ^ 36 → s.number < 2 ^ 64 → IsOp step → HasBytes step → IsTrue (is_call (stamp_of step, call_of s step))
 unfolding stamped_call call number_1
-op_fits (ops.Mkdir stamp p m l) h are = and_from (time.fits stamp) (made.fits (p, (m, l))) (time_fits stamp h.0) (made_fits p m l h.1 are h.2 h.3)
-op_fits (ops.Create stamp p m l) h are = and_from (time.fits stamp) (made.fits (p, (m, l))) (time_fits stamp h.0) (made_fits p m l h.1 are h.2 h.3)
-op_fits (ops.Symlink stamp p target) h are = and_from (time.fits stamp) (place.fits p && text.fits target) (time_fits stamp h.0) (and_from (place.fits p) (text.fits target) (place_fits p h.1 are.0) (text_fits target h.2 are.1))
-op_fits (ops.Setattr stamp p c) h are = and_from (time.fits stamp) (place.fits p && changes.fits c) (time_fits stamp h.0) (and_from (place.fits p) (changes.fits c) (place_fits p h.1 are) (changes_fits c h.2))
-op_fits (ops.Link stamp from to) h are = two_places stamp from to h are
-op_fits (ops.Unlink stamp p) h are = and_from (time.fits stamp) (place.fits p) (time_fits stamp h.0) (place_fits p h.1 are)
-op_fits (ops.Rmdir stamp p) h are = and_from (time.fits stamp) (place.fits p) (time_fits stamp h.0) (place_fits p h.1 are)
-op_fits (ops.Rename stamp from to) h are = two_places stamp from to h are
-op_fits (ops.Lookup stamp p) h are = and_from (time.fits stamp) (place.fits p) (time_fits stamp h.0) (place_fits p h.1 are)
-op_fits (ops.Stat stamp p) h are = and_from (time.fits stamp) (place.fits p) (time_fits stamp h.0) (place_fits p h.1 are)
-op_fits (ops.List stamp p) h are = and_from (time.fits stamp) (place.fits p) (time_fits stamp h.0) (place_fits p h.1 are)
-op_fits (ops.Readlink stamp p) h are = and_from (time.fits stamp) (place.fits p) (time_fits stamp h.0) (place_fits p h.1 are)
+op_fits s (ops.Mkdir stamp p m l) inode number h are = and_from (time.fits stamp) (made.fits (p, (m, l))) (time_fits stamp h.0) (made_fits p m l h.1 are h.2 h.3)
+op_fits s (ops.Create stamp p m l) inode number h are = and_from (time.fits stamp) (made.fits (p, (m, l))) (time_fits stamp h.0) (made_fits p m l h.1 are h.2 h.3)
+op_fits s (ops.Symlink stamp p target) inode number h are = and_from (time.fits stamp) (place.fits p && text.fits target) (time_fits stamp h.0) (and_from (place.fits p) (text.fits target) (place_fits p h.1 are.0) (text_fits target h.2 are.1))
+op_fits s (ops.Setattr stamp p c) inode number h are = and_from (time.fits stamp) (place.fits p && changes.fits c) (time_fits stamp h.0) (and_from (place.fits p) (changes.fits c) (place_fits p h.1 are) (changes_fits c h.2))
+op_fits s (ops.Link stamp from to) inode number h are = two_places stamp from to h are
+op_fits s (ops.Unlink stamp p) inode number h are = and_from (time.fits stamp) (place.fits p) (time_fits stamp h.0) (place_fits p h.1 are)
+op_fits s (ops.Rmdir stamp p) inode number h are = and_from (time.fits stamp) (place.fits p) (time_fits stamp h.0) (place_fits p h.1 are)
+op_fits s (ops.Rename stamp from to) inode number h are = two_places stamp from to h are
+op_fits s (ops.Lookup stamp p) inode number h are = and_from (time.fits stamp) (place.fits p) (time_fits stamp h.0) (place_fits p h.1 are)
+op_fits s (ops.Stat stamp p) inode number h are = and_from (time.fits stamp) (place.fits p) (time_fits stamp h.0) (place_fits p h.1 are)
+op_fits s (ops.List stamp p) inode number h are = and_from (time.fits stamp) (place.fits p) (time_fits stamp h.0) (place_fits p h.1 are)
+op_fits s (ops.Readlink stamp p) inode number h are = and_from (time.fits stamp) (place.fits p) (time_fits stamp h.0) (place_fits p h.1 are)
+op_fits s (ops.Open stamp p fd) inode number h are = and_from (time.fits stamp) (place.fits p) (time_fits stamp h.0) (place_fits p h.1 are)
+op_fits s (ops.Openr stamp p fd) inode number h are = and_from (time.fits stamp) (place.fits p) (time_fits stamp h.0) (place_fits p h.1 are)
+op_fits s (ops.Fstat stamp fd) inode number h are = and_from (time.fits stamp) (session.fits s) (time_fits stamp h.0) (session_fits s inode number)
 
-pub built : (step : Op) → IsTrue (is_built (call_of step))
-built (ops.Mkdir stamp p m l) = refl
-built (ops.Create stamp p m l) = refl
-built (ops.Symlink stamp p target) = refl
-built (ops.Setattr stamp p c) = refl
-built (ops.Link stamp from to) = refl
-built (ops.Unlink stamp p) = refl
-built (ops.Rmdir stamp p) = refl
-built (ops.Rename stamp from to) = refl
-built (ops.Lookup stamp p) = refl
-built (ops.Stat stamp p) = refl
-built (ops.List stamp p) = refl
-built (ops.Readlink stamp p) = refl
+pub built : (s : Session) (step : Op) → IsTrue (is_built (call_of s step))
+built s (ops.Mkdir stamp p m l) = refl
+built s (ops.Create stamp p m l) = refl
+built s (ops.Symlink stamp p target) = refl
+built s (ops.Setattr stamp p c) = refl
+built s (ops.Link stamp from to) = refl
+built s (ops.Unlink stamp p) = refl
+built s (ops.Rmdir stamp p) = refl
+built s (ops.Rename stamp from to) = refl
+built s (ops.Lookup stamp p) = refl
+built s (ops.Stat stamp p) = refl
+built s (ops.List stamp p) = refl
+built s (ops.Readlink stamp p) = refl
+built s (ops.Open stamp p fd) = refl
+built s (ops.Openr stamp p fd) = refl
+built s (ops.Fstat stamp fd) = refl
 
-pub valid_request : (C : Settings) (client : ClientId) (server number : ℕ) (step : Op) → server < C.servers → 1 ≤ number → IsOp step → HasBytes step → IsRequest C (request_of client server number step)
-valid_request C client server number step below from valid are = record { server = below; number = from; call = op_fits step valid are; built = built step }
+pub valid_request : (C : Settings) (client : ClientId) (server number : ℕ) (s : Session) (step : Op) → server < C.servers → 1 ≤ number → s.inode < 2 ^ 36 → s.number < 2 ^ 64 → IsOp step → HasBytes step → IsRequest C (request_of client server number s step)
+valid_request C client server number s step below from inode up_to valid are = record { server = below; number = from; call = op_fits s step inode up_to valid are; built = built s step }

@@ -1,4 +1,5 @@
 pub mod Ending
+pub mod Files
 pub mod Fits
 pub mod Courses
 pub mod Moved

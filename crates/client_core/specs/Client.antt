@@ -1,10 +1,12 @@
 -- A client's place in its script, and its steps.
-use Rattle.std.specs.Prelude.{◌≡◌, ℕ, ◌+◌, ◌%◌, nat_le, List, [], ◌∷◌, ◌++◌, length, slice_get, is_some, Option, Some, None, Bool, true, false, if◌then◌else◌}
+use Rattle.std.specs.Prelude.{◌≡◌, ℕ, ◌+◌, ◌%◌, nat_le, List, [], ◌∷◌, ◌++◌, length, slice_get, is_some, Option, Some, None, option_and_then, Bool, true, false, if◌then◌else◌}
 use Rattle.fs_base.specs.Config.{Settings}
 use Rattle.fs_base.specs.declared.call.Request.{Request}
 use Rattle.path_walk.specs.Requests.{IsRequest}
 use Rattle.txn_task.specs.declared.outcome.Outcome.{Outcome}
-use Rattle.client_core.specs.Ops.{receipt_of, request_of}
+use Rattle.client_core.specs.Descriptors.{descriptors_after, none_open}
+use Rattle.client_core.specs.Ops.{fd_of, receipt_of, request_of, session_for}
+use Rattle.client_core.specs.declared.descriptors.Descriptor.{Descriptor}
 use Rattle.client_core.specs.declared.messages.ClientAnswer.{ClientAnswer}
 use Rattle.client_core.specs.declared.messages.ClientAnswer.TheVariants as answers
 use Rattle.client_core.specs.declared.messages.ClientAsk.{ClientAsk}
@@ -21,6 +23,8 @@ pub record ClientView : Type 0 where
   pub number : ℕ
   -- the server that it sends to
   pub server : ℕ
+  -- what it has open
+  pub descriptors : List (Option Descriptor)
   -- the stops that took away the request of the call under way
   pub gone : List (ℕ × ℕ)
   -- the request under way
@@ -36,6 +40,7 @@ new_client C script =
       op = 0;
       number = 0;
       server = script.home;
+      descriptors = none_open;
       gone = [];
       request = None;
       failed = false;
@@ -55,7 +60,7 @@ FitsClient under_way answer = ⊥
 
 -- the next request is this operation's: it takes the next number, and goes to the present server
 abbrev pub next_request : ClientView → Op → Request
-next_request c step = request_of c.script.id c.server (c.number + 1) step
+next_request c step = request_of c.script.id c.server (c.number + 1) (session_for c.descriptors step) step
 
 -- it is sent, if there is such an operation
 abbrev pub send : ClientView → Option Op → ClientView × ClientAsk
@@ -66,11 +71,19 @@ send c (Some step) = (
       (next_request c step),
 )
 
+-- the descriptor of the operation with this ordinal
+abbrev pub fd_at : List Op → ℕ → Option ℕ
+fd_at steps op = option_and_then fd_of (slice_get steps op)
+
+-- the descriptors once the request of the operation under way was answered
+abbrev pub answered_on : ClientView → Request → Outcome → List (Option Descriptor)
+answered_on c request outcome = descriptors_after c.descriptors (fd_at c.script.ops c.op) request outcome
+
 -- the request under way was answered, and with it its operation has ended
 abbrev pub end_call : ClientView → ℕ → Outcome → Option Request → ClientView × ClientAsk
 end_call c server outcome None = (c, asks.Ended)
 end_call c server outcome (Some request) = (
-  record c { op = c.op + 1; gone = []; request = None },
+  record c { op = c.op + 1; descriptors = answered_on c request outcome; gone = []; request = None },
   asks.CallEnd
       (receipt_of c.op request server c.gone outcome ∷ []) true,
 )

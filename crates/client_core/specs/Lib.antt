@@ -1,6 +1,8 @@
 pub mod Awaiting
 pub mod Client
 pub mod Courses
+pub mod Descriptors
+pub mod Files
 pub mod Moved
 pub mod Ops
 pub mod Plans

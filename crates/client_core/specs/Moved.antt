@@ -4,7 +4,8 @@ use Rattle.fs_base.specs.Config.{Settings}
 use Rattle.fs_base.specs.declared.call.Request.{Request}
 use Rattle.path_walk.specs.Requests.{IsRequest}
 use Rattle.client_core.specs.Client.{ClientView, server_after}
-use Rattle.client_core.specs.Ops.{request_of}
+use Rattle.client_core.specs.Files.{AreDescriptorsSound}
+use Rattle.client_core.specs.Ops.{request_of, session_for}
 use Rattle.client_core.specs.Plans.{IsScript}
 use Rattle.client_core.specs.declared.plan.Op.{Op}
 
@@ -27,7 +28,8 @@ abbrev pub IsAtPlace : ClientView → Option Request → Type 0
 IsAtPlace c None = (c.op ≤ length c.script.ops) × (c.number ≡ c.op)
 IsAtPlace c (Some request) =
     (step : Op) × (slice_get c.script.ops c.op ≡ Some step)
-    × (request ≡ request_of c.script.id c.server (c.op + 1) step) × (c.number ≡ c.op + 1)
+    × (request ≡ request_of c.script.id c.server (c.op + 1) (session_for c.descriptors step) step)
+    × (c.number ≡ c.op + 1)
 
 -- what holds of a client after each of its steps
 pub record IsInScript (c : ClientView) : Type 0 where
@@ -35,7 +37,8 @@ pub record IsInScript (c : ClientView) : Type 0 where
   pub server : c.server < c.config.servers
   pub place : IsAtPlace c c.request
 
--- and a server takes what is under way
+-- a server takes what is under way, and each file that is open is laid out as the configuration asks
 pub record IsUnderWay (c : ClientView) : Type 0 where
   pub in_script : IsInScript c
   pub valid : IfSome c.request (IsRequest c.config)
+  pub files : AreDescriptorsSound c.config c.descriptors

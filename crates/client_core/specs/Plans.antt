@@ -3,13 +3,15 @@ use Rattle.std.specs.Prelude.{◌≡◌, ◌⊎◌, ◌≤◌, ◌<◌, ◌+◌,
 use Rattle.fs_base.specs.declared.call.Changes.{Changes}
 use Rattle.fs_base.specs.declared.call.Place.{Place}
 use Rattle.fs_base.specs.declared.layout.DefaultLayout.{DefaultLayout}
-use Rattle.fs_base.specs.declared.limits.TheConstants.{ATTEMPTS, CLIENTS, INODE_IDS, MODES, OPERATIONS, TEXT_BYTES, TIMES}
+use Rattle.fs_base.specs.declared.limits.TheConstants.{ATTEMPTS, CLIENTS, INODE_IDS, MODES, OPERATIONS, STOPS, STOP_COUNT, TEXT_BYTES, TIMES}
+use Rattle.client_core.specs.declared.descriptors.TheConstants.{DESCRIPTORS}
 use Rattle.client_core.specs.declared.plan.Op.{Op}
 use Rattle.client_core.specs.declared.plan.Op.TheVariants as ops
 use Rattle.client_core.specs.declared.plan.Plan.{Plan}
 use Rattle.client_core.specs.declared.plan.Schedule.{Schedule}
 use Rattle.client_core.specs.declared.plan.Schedule.TheVariants.{Items}
 use Rattle.client_core.specs.declared.plan.Script.{Script}
+use Rattle.client_core.specs.declared.plan.Stop.{Stop}
 
 -- below the limit where it is given
 abbrev pub IsGivenBelow : ℕ → Option ℕ → Type 0
@@ -47,6 +49,9 @@ IsOp (ops.Lookup stamp place) = (stamp < TIMES) × IsPlace place
 IsOp (ops.Stat stamp place) = (stamp < TIMES) × IsPlace place
 IsOp (ops.List stamp place) = (stamp < TIMES) × IsPlace place
 IsOp (ops.Readlink stamp place) = (stamp < TIMES) × IsPlace place
+IsOp (ops.Open stamp place fd) = (stamp < TIMES) × IsPlace place × (fd < DESCRIPTORS)
+IsOp (ops.Openr stamp place fd) = (stamp < TIMES) × IsPlace place × (fd < DESCRIPTORS)
+IsOp (ops.Fstat stamp fd) = (stamp < TIMES) × (fd < DESCRIPTORS)
 
 -- ---- scripts
 
@@ -71,6 +76,19 @@ abbrev pub ops_in : List Script → ℕ
 ops_in [] = 0
 ops_in (script ∷ scripts) = length script.ops + ops_in scripts
 
+-- ---- stops
+
+-- a stop of one of so many servers
+pub record IsStop (servers : ℕ) (stop : Stop) : Type 0 where
+  pub server : stop.server < servers
+  pub from : 1 ≤ stop.n
+  pub to : stop.n ≤ STOP_COUNT
+
+-- stops that are alike are one
+abbrev pub AreStopsDistinct : List Stop → Type 0
+AreStopsDistinct stops =
+    (j k : ℕ) (stop : Stop) → slice_get stops j ≡ Some stop → slice_get stops k ≡ Some stop → j ≡ k
+
 -- ---- schedules
 
 -- a turn, or a whole operation, of one of so many clients
@@ -89,4 +107,7 @@ pub record IsPlan (plan : Plan) : Type 0 where
   pub ids : All HasId plan.clients
   pub distinct : AreDistinct plan.clients
   pub short : ops_in plan.clients ≤ OPERATIONS
+  pub few_stops : length plan.stops ≤ STOPS
+  pub stops : All (IsStop plan.config.servers) plan.stops
+  pub distinct_stops : AreStopsDistinct plan.stops
   pub schedule : IsSchedule (length plan.clients) plan.schedule

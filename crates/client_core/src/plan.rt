@@ -2,7 +2,8 @@ use fs_base::{Changes, ClientId, Config, DefaultLayout, Items, Place, Text};
 
 /// One operation of a client. A stamp is the client's time, below 2^53, in a unit that the clients agree on.
 ///
-/// A mode is the twelve permission bits of POSIX, below 4,096; a text has at most 65,535 bytes.
+/// A mode is the twelve permission bits of POSIX, below 4,096; a text has at most 65,535 bytes. `fd` is a
+/// descriptor of the client.
 #[derive(Debug, Drop)]
 pub enum Op {
     /// Makes a directory, with a default layout of its own or its parent's.
@@ -73,6 +74,23 @@ pub enum Op {
         stamp: u64,
         place: Place,
     },
+    /// Opens a file for writing.
+    Open {
+        stamp: u64,
+        place: Place,
+        fd: u8,
+    },
+    /// Opens a file for reading.
+    Openr {
+        stamp: u64,
+        place: Place,
+        fd: u8,
+    },
+    /// What a descriptor's file is like by now.
+    Fstat {
+        stamp: u64,
+        fd: u8,
+    },
 }
 
 /// What a client does, in order.
@@ -94,6 +112,24 @@ pub enum Schedule {
     Items(Items<u16>),
 }
 
+/// What a server counts up to a stop, over its whole life.
+#[derive(Clone, Copy, Debug, PartialEq, Eq)]
+pub enum StopAfter {
+    /// Asks of the requests that it works on.
+    Ask,
+    /// Entries that it made.
+    Commit,
+}
+
+/// A planned stop: right after the count reaches `n`, the server stops and starts again with nothing kept.
+#[derive(Clone, Copy, Debug, PartialEq, Eq)]
+pub struct Stop {
+    pub server: u8,
+    pub after: StopAfter,
+    /// 1 to 1,000,000.
+    pub n: u32,
+}
+
 /// What a run does.
 #[derive(Debug, Drop)]
 pub struct Plan {
@@ -102,5 +138,7 @@ pub struct Plan {
     pub attempts: u8,
     /// Each client at its ordinal, 1 to 64 of them.
     pub clients: Items<Script>,
+    /// At most 64, no two alike. Those of one server that are due at the same ask are one stop.
+    pub stops: Items<Stop>,
     pub schedule: Schedule,
 }

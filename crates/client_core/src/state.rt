@@ -1,13 +1,16 @@
 ghost use Rattle.std.specs.Prelude.{◌≡◌, ◌<◌, None, false, true, option_map, slice_get, IfOk, IfSome, OnOk, OnErr};
 ghost use Rattle.client_core.specs.Awaiting.{Awaits};
-ghost use Rattle.client_core.specs.Client.{client_step, end_call, has_ended, new_client, next_request, send, send_again, server_after, FitsClient, IsSending};
+ghost use Rattle.client_core.specs.Client.{client_step, end_call, fd_at, has_ended, new_client, next_request, send, send_again, server_after, FitsClient, IsSending};
+ghost use Rattle.client_core.specs.Files.{AreDescriptorsSound, IsFileSound, ShowsSound};
+ghost use Rattle.client_core.specs.Ops.{session_for};
 ghost use Rattle.client_core.specs.Plans.{IsScript};
 ghost use Rattle.path_walk.specs.Requests.{IsRequest};
 
+use crate::descriptors::{Descriptors, descriptor_after, session_of};
 use crate::messages::{ClientAnswer, ClientAsk};
-use crate::plan::Script;
-use crate::steps::{copy_for, copy_of, receipts_of, request_of};
-use fs_base::{ClientId, Config, Items, Memory, Request};
+use crate::plan::{Op, Script};
+use crate::steps::{copy_for, copy_of, fd_of, receipts_of, request_of};
+use fs_base::{ClientId, Config, Items, Memory, Request, Session};
 use std::alloc::Global;
 use std::marker::Model;
 use txn_task::Outcome;
@@ -25,6 +28,8 @@ pub struct ClientState {
     number: u64,
     /// The one that it sends to.
     server: u8,
+    /// What it has open.
+    descriptors: Descriptors,
     /// The stops that took away the request of the call under way.
     gone: Items<(u8, u32)>,
     /// The one under way.
@@ -44,6 +49,7 @@ impl Model for ClientState {
       op = c.op;
       number = c.number;
       server = c.server;
+      descriptors = c.descriptors;
       gone = c.gone;
       request = c.request;
       failed = c.failed;
@@ -56,6 +62,7 @@ impl Model for ClientState {
           op = c.op;
           number = c.number;
           server = c.server;
+          descriptors = c.descriptors;
           gone = c.gone;
           request = c.request;
           failed = c.failed;
@@ -76,6 +83,7 @@ impl ClientState {
             op: 0,
             number: 0,
             server,
+            descriptors: Descriptors::new(alloc)?,
             gone: Items::new(alloc),
             request: None,
             failed: false,
@@ -86,7 +94,8 @@ impl ClientState {
     ///
     /// A client that had no memory for it answers want of memory from then on: what it was answered is lost.
     pub fn next(&mut self, answer: ClientAnswer) -> Result<ClientAsk, Memory>
-        requires { FitsClient self.old.request answer }
+        requires fits { FitsClient self.old.request answer }
+        requires files { ShowsSound self.old.config answer }
         ensures alive { OnOk result (self.old.failed ≡ false) }
         ensures client { OnOk result (self.new ≡ (client_step self.old answer).0) }
         ensures ask { IfOk result (λ ask. ask ≡ (client_step self.old answer).1) }
@@ -104,7 +113,8 @@ impl ClientState {
     }
 
     fn step(&mut self, answer: ClientAnswer) -> Result<ClientAsk, Memory>
-        requires { FitsClient self.old.request answer }
+        requires fits { FitsClient self.old.request answer }
+        requires files { ShowsSound self.old.config answer }
         ensures client { OnOk result (self.new ≡ (client_step self.old answer).0) }
         ensures ask { IfOk result (λ ask. ask ≡ (client_step self.old answer).1) }
         ensures valid { IfOk result (λ ask. IsSending self.old.config ask) }
@@ -127,6 +137,13 @@ impl ClientState {
         }
     }
 
+    /// What a call on an operation's descriptor is sent with.
+    fn session_for(&self, step: &Op) -> Session
+        ensures { result ≡ session_for self.now.descriptors step.now }
+    {
+        session_of(self.descriptors.at(fd_of(step)))
+    }
+
     /// The next operation's request, if there is one.
     fn next_request(&self) -> Result<Option<Request>, Memory>
         requires { self.now.request ≡ None }
@@ -138,12 +155,14 @@ impl ClientState {
         let Some(step) = self.script.ops.as_slice().get(usize::from(self.op)) else {
             return Ok(None);
         };
+        let session = self.session_for(step);
         let request = request_of(
             self.alloc,
             self.config,
             self.script.id,
             self.server,
             self.number + 1,
+            session,
             step,
         )?;
         Ok(Some(request))
@@ -202,18 +221,32 @@ impl ClientState {
         })
     }
 
+    /// The descriptor of the operation under way, if it has one.
+    fn fd(&self) -> Option<u8>
+        ensures { result ≡ fd_at self.now.script.ops self.now.op }
+    {
+        match self.script.ops.as_slice().get(usize::from(self.op)) {
+            Some(step) => fd_of(step),
+            None => None,
+        }
+    }
+
     /// Ends the operation under way.
     fn end_call(&mut self, server: u8, outcome: Outcome) -> Result<ClientAsk, Memory>
+        requires { IsFileSound self.old.config outcome.reply }
         ensures client { OnOk result (self.new ≡ (end_call self.old server outcome self.old.request).0) }
         ensures ask { IfOk result (λ ask. ask ≡ (end_call self.old server outcome self.old.request).1) }
         ensures valid { IfOk result (λ ask. IsSending self.old.config ask) }
         ensures awaits { IfOk result (λ ask. Awaits self.new.request ask) }
         ensures err { OnErr result (self.new ≡ self.old) }
     {
+        let fd = self.fd();
         let Some(request) = &self.request else {
             return Ok(ClientAsk::Ended);
         };
+        let descriptor = descriptor_after(request, &outcome, self.descriptors.at(fd));
         let receipts = receipts_of(self.alloc, self.op, request, server, &self.gone, outcome)?;
+        self.descriptors.put(fd, descriptor);
         self.op += 1;
         self.gone = Items::new(self.alloc);
         self.request = None;
@@ -234,6 +267,17 @@ impl ClientState {
         ensures { result ≡ has_ended self.now }
     {
         self.request.is_none() && self.script.ops.len() <= usize::from(self.op)
+    }
+
+    /// A copy of the request under way, as it was sent last.
+    pub fn pending(&self) -> Result<Option<Request>, Memory>
+        ensures is { IfOk result (λ request. request ≡ self.now.request) }
+        ensures valid { IfOk result (λ request. IfSome request (IsRequest self.now.config)) }
+    {
+        match &self.request {
+            Some(request) => Ok(Some(copy_of(self.alloc, request)?)),
+            None => Ok(None),
+        }
     }
 
     /// How many operations have ended.

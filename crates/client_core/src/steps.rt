@@ -1,14 +1,15 @@
 //! The requests and receipts of operations.
 
-ghost use Rattle.std.specs.Prelude.{◌≡◌, ◌≤◌, ◌<◌, [], ◌∷◌, true, IfOk};
+ghost use Rattle.std.specs.Prelude.{◌≡◌, ◌≤◌, ◌<◌, ◌^◌, [], ◌∷◌, true, IfOk};
 ghost use Rattle.byte_fields.specs.Forms.{are_bytes};
 ghost use Rattle.client_core.specs.Client.{sent_to};
-ghost use Rattle.client_core.specs.Ops.{call_of, receipt_of, request_of, stamp_of, HasBytes};
+ghost use Rattle.client_core.specs.Ops.{call_of, fd_of, receipt_of, request_of, stamp_of, HasBytes};
 ghost use Rattle.client_core.specs.Plans.{IsOp};
 ghost use Rattle.path_walk.specs.Requests.{IsRequest};
 
 use crate::plan::Op;
-use fs_base::{Call, ClientId, Config, Items, Memory, Request};
+use fs_base::limits::INODE_IDS;
+use fs_base::{Call, ClientId, Config, Items, Memory, Request, Session};
 use std::alloc::Global;
 use txn_task::{Outcome, Receipt};
 
@@ -45,6 +46,29 @@ fn texts_are_bytes(step: &Op)
         Op::Stat { place, .. } => is_of_bytes(place.text.as_slice()),
         Op::List { place, .. } => is_of_bytes(place.text.as_slice()),
         Op::Readlink { place, .. } => is_of_bytes(place.text.as_slice()),
+        Op::Open { place, .. } => is_of_bytes(place.text.as_slice()),
+        Op::Openr { place, .. } => is_of_bytes(place.text.as_slice()),
+        Op::Fstat { .. } => (),
+    }
+}
+
+/// It does nothing: that a session's numbers are in their ranges is known where they are seen.
+fn is_in_ranges(session: Session)
+    ensures inode { session.inode < INODE_IDS }
+    ensures number { session.number < 2 ^ 64 }
+{
+    let _inode = session.inode.get();
+}
+
+/// The descriptor that an operation opens or uses.
+pub(crate) fn fd_of(step: &Op) -> Option<u8>
+    ensures { result ≡ fd_of step.now }
+{
+    match step {
+        Op::Open { fd, .. } => Some(*fd),
+        Op::Openr { fd, .. } => Some(*fd),
+        Op::Fstat { fd, .. } => Some(*fd),
+        _ => None,
     }
 }
 
@@ -64,11 +88,14 @@ fn stamp_of(step: &Op) -> u64
         Op::Stat { stamp, .. } => *stamp,
         Op::List { stamp, .. } => *stamp,
         Op::Readlink { stamp, .. } => *stamp,
+        Op::Open { stamp, .. } => *stamp,
+        Op::Openr { stamp, .. } => *stamp,
+        Op::Fstat { stamp, .. } => *stamp,
     }
 }
 
-fn call_of(alloc: Global, step: &Op) -> Result<Call, Memory>
-    ensures { IfOk result (λ call. call ≡ call_of step.now) }
+fn call_of(alloc: Global, session: Session, step: &Op) -> Result<Call, Memory>
+    ensures { IfOk result (λ call. call ≡ call_of session step.now) }
 {
     match step {
         Op::Mkdir {
@@ -113,31 +140,36 @@ fn call_of(alloc: Global, step: &Op) -> Result<Call, Memory>
         Op::Stat { place, .. } => Ok(Call::Stat(place.try_clone(alloc)?)),
         Op::List { place, .. } => Ok(Call::List(place.try_clone(alloc)?)),
         Op::Readlink { place, .. } => Ok(Call::Readlink(place.try_clone(alloc)?)),
+        Op::Open { place, .. } => Ok(Call::Open(place.try_clone(alloc)?)),
+        Op::Openr { place, .. } => Ok(Call::Openr(place.try_clone(alloc)?)),
+        Op::Fstat { .. } => Ok(Call::Fstat(session)),
     }
 }
 
-/// A request of an operation, to a server and by a number.
+/// A request of an operation, to a server and by a number; the session is that of its descriptor.
 pub(crate) fn request_of(
     alloc: Global,
     config: Config,
     client: ClientId,
     server: u8,
     number: u64,
+    session: Session,
     step: &Op,
 ) -> Result<Request, Memory>
     requires op { IsOp step.now }
     requires server { server < config.servers }
     requires number { 1 ≤ number }
-    ensures is { IfOk result (λ request. request ≡ request_of client server number step.now) }
+    ensures is { IfOk result (λ request. request ≡ request_of client server number session step.now) }
     ensures valid { IfOk result (IsRequest config) }
 {
     texts_are_bytes(step);
+    is_in_ranges(session);
     Ok(Request {
         server,
         client,
         number,
         stamp: stamp_of(step),
-        call: call_of(alloc, step)?,
+        call: call_of(alloc, session, step)?,
     })
 }
 

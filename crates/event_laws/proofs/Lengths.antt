@@ -1,11 +1,10 @@
 -- What is among the elements of a list, and the journal's length at the newest event that passes a test.
-use Rattle.std.proofs.Common.{◌≡◌, ◌≢◌, ℕ, ◌⊎◌, Bool, true, false, List, [], ◌∷◌, ◌++◌, Option, Some, inl, inr, length, refl, sym, ap, subst, ◌∙◌, ◌&&◌}
+use Rattle.std.proofs.Common.{◌≡◌, ◌≢◌, ℕ, ◌⊎◌, Bool, true, false, List, [], ◌∷◌, ◌++◌, Some, inl, inr, length, refl, sym, ap, subst, ◌∙◌, ◌&&◌}
 use Rattle.std.specs.Prelude.{MatchBool, slice_get}
 use Rattle.std.proofs.lemmas.Bool.{cases_Bool, eq-eqb, ne_eqb}
 use Rattle.world_core.specs.EventList.{Event}
 use Rattle.seat_turns.specs.declared.seats.Seat.{Seat}
-use Rattle.seat_turns.specs.declared.seats.Work.{Work}
-use Rattle.event_laws.specs.Moments.{IsAmong, IsLengthAt, has_work, is_of}
+use Rattle.event_laws.specs.Moments.{IsAmong, IsLengthAt, has_seat, is_of}
 
 -- ---- elements
 
@@ -18,13 +17,13 @@ among_push (z ∷ xs) x y h = elim h [
 
 -- ---- tests
 
-module _ (test : Option Work → Bool) (event : Event) where
+module _ (test : Seat → Bool) (event : Event) where
   -- of the event's own client
-  pub of_own : (seat : Seat) → slice_get event.before.seats event.client ≡ Some seat → is_of test event.client event ≡ test seat.work
-  of_own seat at = ap (λ b. b && has_work test (slice_get event.before.seats event.client)) (eq-eqb event.client event.client refl) ∙ ap (has_work test) at
+  pub of_own : (seat : Seat) → slice_get event.before.seats event.client ≡ Some seat → is_of test event.client event ≡ test seat
+  of_own seat at = ap (λ b. b && has_seat test (slice_get event.before.seats event.client)) (eq-eqb event.client event.client refl) ∙ ap (has_seat test) at
 
   pub of_other : (k : ℕ) → event.client ≢ k → is_of test k event ≡ false
-  of_other k apart = ap (λ b. b && has_work test (slice_get event.before.seats k)) (ne_eqb event.client k apart)
+  of_other k apart = ap (λ b. b && has_seat test (slice_get event.before.seats k)) (ne_eqb event.client k apart)
 
 -- ---- lengths
 

@@ -1,4 +1,6 @@
 pub mod Along
+pub mod Asked
+pub mod Homing
 pub mod Lengths
 pub mod Meeting
 pub mod OneEvent
@@ -7,4 +9,6 @@ pub mod Receiving
 pub mod Rising
 pub mod Running
 pub mod Since
+pub mod Stopped
+pub mod Stopping
 pub mod Telling

@@ -25,28 +25,40 @@ use Rattle.seat_turns.specs.Ready.{is_done}
 use Rattle.seat_turns.specs.declared.seats.Seat.{Seat}
 use Rattle.seat_turns.specs.declared.seats.Work.{Work}
 use Rattle.event_laws.specs.Moments.{is_begin, next_ask}
+use Rattle.event_laws.proofs.Stopped.{call_front}
 
 -- ---- the request whose ask is answered
 
--- a new one, or the one that was under way
-abbrev pub IsAsked : ℕ → Option Work → Work → Type 0
-IsAsked front None work = (work.ask ≡ asks.Begin) × (work.front ≡ front) × (work.task.conflicts ≡ [])
-IsAsked front (Some before) work = work ≡ before
+-- a call that goes on keeps its front; a new one begins here
+abbrev pub begun_at : ℕ → Option ℕ → ℕ
+begun_at count None = count
+begun_at count (Some front) = front
 
-pub asked : (C : Settings) (attempts front : ℕ) (before sent : Seat) (w : Option Work) (work : Work) → before.work ≡ w → IsAtWork C attempts front before sent w → sent.work ≡ Some work → IsAsked front w work
-asked C attempts front before sent None work is h there =
-    let fresh : Work = record { task = record (new_task C attempts h.request) { waiting = waits.Beginning }; ask = asks.Begin; server = h.server; front = front } in
-    let same : work ≡ fresh = same_Some work fresh (sym there ∙ h.work) in
-    (ap (λ (x : Work). x.ask) same, ap (λ (x : Work). x.front) same, ap (λ (x : Work). x.task.conflicts) same)
-asked C attempts front before sent (Some w) work is h there = same_Some work w (sym there ∙ (ap (λ (s : Seat). s.work) h ∙ is))
+-- the one that was under way, or one that is sent: for the first time, or again
+abbrev pub IsAsked : ℕ → Option Work → Option ℕ → Work → Type 0
+IsAsked count (Some before) again work = work ≡ before
+IsAsked count None again work = (work.ask ≡ asks.Begin) × (work.front ≡ begun_at count again) × (work.task.conflicts ≡ [])
 
-pub asked_next : (front : ℕ) (w : Option Work) (work : Work) → IsAsked front w work → work.ask ≡ next_ask w
-asked_next front None work h = h.0
-asked_next front (Some w) work h = ap (λ (x : Work). x.ask) h
+sent_now : (C : Settings) (attempts count : ℕ) (request : Request) (server front : ℕ) (again : Option ℕ) (work : Work) → front ≡ begun_at count again
+    → work ≡ record { task = record (new_task C attempts request) { waiting = waits.Beginning }; ask = asks.Begin; server = server; front = front } → IsAsked count None again work
+sent_now C attempts count request server front again work begun same =
+    (ap (λ (x : Work). x.ask) same, ap (λ (x : Work). x.front) same ∙ begun, ap (λ (x : Work). x.task.conflicts) same)
 
-pub sent_receipts : (C : Settings) (attempts front : ℕ) (before sent : Seat) (w : Option Work) → IsAtWork C attempts front before sent w → sent.receipts ≡ before.receipts
-sent_receipts C attempts front before sent None h = h.receipts
-sent_receipts C attempts front before sent (Some w) h = ap (λ (s : Seat). s.receipts) h
+pub asked : (C : Settings) (attempts count : ℕ) (before sent : Seat) (w : Option Work) (again : Option ℕ) (work : Work) → before.work ≡ w → IsAtWork C attempts count before sent w again → sent.work ≡ Some work → IsAsked count w again work
+asked C attempts count before sent (Some w) again work is h there = same_Some work w (sym there ∙ (ap (λ (s : Seat). s.work) h ∙ is))
+asked C attempts count before sent None (Some front) work is h there =
+    sent_now C attempts count h.request h.request.server front (Some front) work refl (same_Some work _ (sym there ∙ ap (λ (s : Seat). s.work) h.sends))
+asked C attempts count before sent None None work is h there =
+    sent_now C attempts count h.request h.server count None work refl (same_Some work _ (sym there ∙ h.work))
+
+pub asked_next : (count : ℕ) (w : Option Work) (again : Option ℕ) (work : Work) → IsAsked count w again work → work.ask ≡ next_ask w
+asked_next count None again work h = h.0
+asked_next count (Some w) again work h = ap (λ (x : Work). x.ask) h
+
+pub sent_receipts : (C : Settings) (attempts count : ℕ) (before sent : Seat) (w : Option Work) (again : Option ℕ) → IsAtWork C attempts count before sent w again → sent.receipts ≡ before.receipts
+sent_receipts C attempts count before sent (Some w) again h = ap (λ (s : Seat). s.receipts) h
+sent_receipts C attempts count before sent None (Some front) h = ap (λ (s : Seat). s.receipts) h.sends
+sent_receipts C attempts count before sent None None h = h.receipts
 
 -- ---- the snapshot after the answer
 
@@ -116,9 +128,17 @@ after_conflicts C old new task after ask next answer answered h =
 -- ---- what it comes to
 
 -- the request that is under way afterwards
-pub work_after : (C : Settings) (k : ℕ) (before after : Seat) (work later : Work) (done : Bool) → Comes C k before after work done → after.work ≡ Some later → later ≡ work
-work_after C k before after work later false h at = same_Some later work (sym at ∙ ap (λ (s : Seat). s.work) h)
-work_after C k before after work later true h at = absurd (let none : None ≡ Some later = sym h.work ∙ at in cc)
+pub work_after : (C : Settings) (k : ℕ) (before after : Seat) (work later : Work) (stop : Option ℕ) (done : Bool) → Comes C k before after work stop done → after.work ≡ Some later → later ≡ work
+work_after C k before after work later (Some stop) done h at = absurd (let none : None ≡ Some later = sym (ap (λ (s : Seat). s.work) h) ∙ at in cc)
+work_after C k before after work later None false h at = same_Some later work (sym at ∙ ap (λ (s : Seat). s.work) h)
+work_after C k before after work later None true h at = absurd (let none : None ≡ Some later = sym h.work ∙ at in cc)
+
+-- the call that is under way afterwards, if it has not ended: it keeps its front where a stop takes its request away
+pub front_after : (C : Settings) (k : ℕ) (before after : Seat) (work : Work) (front : ℕ) (stop : Option ℕ) (done : Bool) → Comes C k before after work stop done → call_front after.work after.again ≡ Some front → front ≡ work.front
+front_after C k before after work front (Some stop) done h at = same_Some front work.front (sym at ∙ ap (λ (s : Seat). call_front s.work s.again) h)
+front_after C k before after work front None false h at = same_Some front work.front (sym at ∙ ap (λ (s : Seat). call_front s.work s.again) h)
+front_after C k before after work front None true h at =
+    absurd (let none : None ≡ Some front = sym (ap (λ (w : Option Work). call_front w after.again) h.work ∙ h.again) ∙ at in cc)
 
 same_last : {X : Type 0} (xs : List X) (x y : X) → xs ++ x ∷ [] ≡ xs ++ y ∷ [] → x ≡ y
 same_last [] x y e = cc
@@ -134,16 +154,18 @@ pub record HasListed (C : Settings) (k : ℕ) (before after : Seat) (work : Work
   pub fronts : listed.fronts ≡ fronts_of C work.front
   pub receipt : listed.receipt ≡ learned.receipt
 
-pub listed_after : (C : Settings) (k : ℕ) (before after : Seat) (work : Work) (listed : Listed) (done : Bool) → Comes C k before after work done → after.receipts ≡ before.receipts ++ listed ∷ [] → HasListed C k before after work listed done
-listed_after C k before after work listed false h more = absurd (no_more before.receipts listed (sym (ap (λ (s : Seat). s.receipts) h) ∙ more))
-listed_after C k before after work listed true h more =
+pub listed_after : (C : Settings) (k : ℕ) (before after : Seat) (work : Work) (listed : Listed) (stop : Option ℕ) (done : Bool) → Comes C k before after work stop done → after.receipts ≡ before.receipts ++ listed ∷ [] → HasListed C k before after work listed done
+listed_after C k before after work listed (Some stop) done h more = absurd (no_more before.receipts listed (sym (ap (λ (s : Seat). s.receipts) h) ∙ more))
+listed_after C k before after work listed None false h more = absurd (no_more before.receipts listed (sym (ap (λ (s : Seat). s.receipts) h) ∙ more))
+listed_after C k before after work listed None true h more =
     let same : listed ≡ _ = same_last before.receipts listed _ (sym more ∙ h.receipts) in
     record { ended = refl; learned = h; fronts = ap (λ (l : Listed). l.fronts) same; receipt = ap (λ (l : Listed). l.receipt) same }
 
 -- the receipts are as they were, or one more
-pub receipts_after : (C : Settings) (k : ℕ) (before after : Seat) (work : Work) (done : Bool) → Comes C k before after work done → (after.receipts ≡ before.receipts) ⊎ ((listed : Listed) × (after.receipts ≡ before.receipts ++ listed ∷ []))
-receipts_after C k before after work false h = inl (ap (λ (s : Seat). s.receipts) h)
-receipts_after C k before after work true h = inr (_, h.receipts)
+pub receipts_after : (C : Settings) (k : ℕ) (before after : Seat) (work : Work) (stop : Option ℕ) (done : Bool) → Comes C k before after work stop done → (after.receipts ≡ before.receipts) ⊎ ((listed : Listed) × (after.receipts ≡ before.receipts ++ listed ∷ []))
+receipts_after C k before after work (Some stop) done h = inl (ap (λ (s : Seat). s.receipts) h)
+receipts_after C k before after work None false h = inl (ap (λ (s : Seat). s.receipts) h)
+receipts_after C k before after work None true h = inr (_, h.receipts)
 
 pub receipt_outcome : (c : ClientView) (server : ℕ) (outcome : Outcome) (o : Option Request) (receipt : Receipt) → client_asks.CallEnd (receipt ∷ []) true ≡ (end_call c server outcome o).1 → outcome_of receipt ≡ outcome
 receipt_outcome c server outcome None receipt e = absurd (cc)

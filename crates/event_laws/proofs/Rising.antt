@@ -1,5 +1,5 @@
 -- A reply is as new as all that was learned before its call began.
-use Rattle.std.proofs.Common.{◌≡◌, ℕ, ◌≤◌, ◌+◌, Bool, true, false, cond, List, [], ◌∷◌, ◌++◌, Some, inl, inr, length, refl, ap, subst, ◌∙◌, arith}
+use Rattle.std.proofs.Common.{◌≡◌, ℕ, ◌≤◌, ◌+◌, Bool, true, false, cond, List, [], ◌∷◌, ◌++◌, Some, inl, inr, length, ap, subst, ◌∙◌, arith}
 use Rattle.std.specs.Prelude.{slice_get}
 use Rattle.std.proofs.lemmas.Bool.{cases_Bool}
 use Rattle.std.proofs.lemmas.List.{length_push}
@@ -41,7 +41,7 @@ last_rises floor [] listed h = h.1
 last_rises floor (first ∷ rest) listed h = last_rises (seen_by (outcome_of first.receipt)) rest listed h.2
 
 module _ (event : Event) (listed : Listed) (gone : HasGone event.before event.after event.client) (told : HasTold event listed) where
-  seat_told : IsSeat event.after.config event.after.attempts (entries_of event.after.objects.store.journal) event.client told.later
+  seat_told : IsSeat event.after.config event.after.attempts event.after.stops (entries_of event.after.objects.store.journal) event.client told.later
   seat_told = (gone.world.seated gone.alive).all event.client told.later told.is
 
   pub seen_within : seen_by (outcome_of listed.receipt) ≤ length event.after.objects.store.journal

@@ -41,8 +41,8 @@ journal_before event = entries_of event.before.objects.store.journal
 abbrev journal_after : Event → List Entry
 journal_after event = entries_of event.after.objects.store.journal
 
-abbrev IsEventOf : Event → Seat → Seat → Type 0
-IsEventOf event seat later = IsEvent event.before.config event.before.attempts event.client (journal_before event) (journal_after event) seat later
+abbrev IsEventOf : Event → ℕ → Option ℕ → Seat → Seat → Type 0
+IsEventOf event server stop seat later = IsEvent event.before.config event.before.attempts event.client server stop (journal_before event) (journal_after event) seat later
 
 -- ---- the ask
 
@@ -50,7 +50,7 @@ pub asked_once : EventsAsk
 asked_once event seat gone at =
     let same : length event.after.seats ≡ length event.before.seats = same_seats event.after event.before gone.same_plan in
     let later : (s : Seat) × (slice_get event.after.seats event.client ≡ Some s) = there event.after.seats event.client (subst (λ n. event.client < n) (sym same) gone.within) in
-    let e : IsEventOf event seat later.0 = gone.event seat later.0 at later.1 in
+    let e : IsEventOf event gone.event.server gone.event.stop seat later.0 = gone.event.own seat later.0 at later.1 in
     let count : ℕ = length (journal_before event) in (
       e.exchanged.exchange.answer,
       record {
@@ -58,8 +58,10 @@ asked_once event seat gone at =
         later = later.0;
         was = at;
         is = later.1;
+        server = gone.event.server;
+        stop = gone.event.stop;
         turn = e;
-        ask_is = asked_next count seat.work e.exchanged.work (asked event.before.config event.before.attempts count seat e.sent seat.work e.exchanged.work refl e.at_work e.exchanged.there);
+        ask_is = asked_next count seat.work seat.again e.exchanged.work (asked event.before.config event.before.attempts count seat e.sent seat.work seat.again e.exchanged.work refl e.at_work e.exchanged.there);
         answer_is = refl;
       },
     )
@@ -80,24 +82,24 @@ module _ (plan : Plan) (event : Event) (earlier : List Event) (ends : IsNewestEv
   since_at : (seat : Seat) → slice_get event.before.seats event.client ≡ Some seat → IsSeatSince earlier event.client seat
   since_at seat at = seats_since plan ends.first ends.opening earlier event.before ends.events.2 event.client seat at
 
-  since_now : (seat later : Seat) → slice_get event.before.seats event.client ≡ Some seat → (e : IsEventOf event seat later) → IsSince (event ∷ earlier) event.client e.exchanged.work.front e.exchanged.task.snapshot
-  since_now seat later at e = event_since event earlier seat at (since_at seat at) later e
+  since_now : (server : ℕ) (stop : Option ℕ) (seat later : Seat) → slice_get event.before.seats event.client ≡ Some seat → (e : IsEventOf event server stop seat later) → IsSince (event ∷ earlier) event.client e.exchanged.work.front e.exchanged.task.snapshot
+  since_now server stop seat later at e = event_since event earlier seat at (since_at seat at) server stop later e
 
   same_config : event.before.config ≡ plan.config
   same_config = ap (λ (p : Plan). p.config) (plan_along ends.first earlier event.before ends.events.2 ∙ ends.opening.plan_is)
 
   -- ---- a receipt
 
-  listed_of : (listed : Listed) (seat later : Seat) (e : IsEventOf event seat later) → later.receipts ≡ seat.receipts ++ listed ∷ []
+  listed_of : (listed : Listed) (server : ℕ) (stop : Option ℕ) (seat later : Seat) (e : IsEventOf event server stop seat later) → later.receipts ≡ seat.receipts ++ listed ∷ []
       → HasListed event.before.config event.client e.sent later (record e.exchanged.work { task = e.exchanged.task; ask = e.exchanged.next }) listed (is_done e.exchanged.next)
-  listed_of listed seat later e more =
-      listed_after event.before.config event.client e.sent later (record e.exchanged.work { task = e.exchanged.task; ask = e.exchanged.next }) listed (is_done e.exchanged.next) e.exchanged.comes
-      (more ∙ ap (λ (l : List Listed). l ++ listed ∷ []) (sym (sent_receipts event.before.config event.before.attempts (length (journal_before event)) seat e.sent seat.work e.at_work)))
+  listed_of listed server stop seat later e more =
+      listed_after event.before.config event.client e.sent later (record e.exchanged.work { task = e.exchanged.task; ask = e.exchanged.next }) listed stop (is_done e.exchanged.next) e.exchanged.comes
+      (more ∙ ap (λ (l : List Listed). l ++ listed ∷ []) (sym (sent_receipts event.before.config event.before.attempts (length (journal_before event)) seat e.sent seat.work seat.again e.at_work)))
 
-  fronts_by : (listed : Listed) (seat later : Seat) → slice_get event.before.seats event.client ≡ Some seat → IsEventOf event seat later → later.receipts ≡ seat.receipts ++ listed ∷ []
+  fronts_by : (listed : Listed) (server : ℕ) (stop : Option ℕ) (seat later : Seat) → slice_get event.before.seats event.client ≡ Some seat → IsEventOf event server stop seat later → later.receipts ≡ seat.receipts ++ listed ∷ []
       → (front : ℕ) × IsLengthAt (begins_call event.client) (event ∷ earlier) front × (listed.fronts ≡ fronts_of plan.config front)
-  fronts_by listed seat later at e more =
-      (e.exchanged.work.front, (since_now seat later at e).call, (listed_of listed seat later e more).fronts ∙ ap (λ (C : Settings). fronts_of C e.exchanged.work.front) same_config)
+  fronts_by listed server stop seat later at e more =
+      (e.exchanged.work.front, (since_now server stop seat later at e).call, (listed_of listed server stop seat later e more).fronts ∙ ap (λ (C : Settings). fronts_of C e.exchanged.work.front) same_config)
 
   -- where the outcome comes from that the receipt tells
   record IsTold (listed : Listed) (old new : TaskView) (answer : Answer) : Type 0 where
@@ -106,9 +108,9 @@ module _ (plan : Plan) (event : Event) (earlier : List Event) (ends : IsNewestEv
     origin : HasOrigin old (learnt old answer) answer outcome
     conflicts : outcome.conflicts ≡ new.conflicts
 
-  told_of : (listed : Listed) (seat later : Seat) (e : IsEventOf event seat later) → later.receipts ≡ seat.receipts ++ listed ∷ [] → IsTold listed e.exchanged.work.task e.exchanged.task e.exchanged.exchange.answer
-  told_of listed seat later e more =
-      let h : HasListed event.before.config event.client e.sent later (record e.exchanged.work { task = e.exchanged.task; ask = e.exchanged.next }) listed (is_done e.exchanged.next) = listed_of listed seat later e more in
+  told_of : (listed : Listed) (server : ℕ) (stop : Option ℕ) (seat later : Seat) (e : IsEventOf event server stop seat later) → later.receipts ≡ seat.receipts ++ listed ∷ [] → IsTold listed e.exchanged.work.task e.exchanged.task e.exchanged.exchange.answer
+  told_of listed server stop seat later e more =
+      let h : HasListed event.before.config event.client e.sent later (record e.exchanged.work { task = e.exchanged.task; ask = e.exchanged.next }) listed (is_done e.exchanged.next) = listed_of listed server stop seat later e more in
       let origin : (outcome : Outcome) × (e.exchanged.task.outcome ≡ Some outcome) × HasOrigin e.exchanged.work.task (learnt e.exchanged.work.task e.exchanged.exchange.answer) e.exchanged.exchange.answer outcome × (outcome.conflicts ≡ e.exchanged.task.conflicts)
       = done_origin e.exchanged.work.task e.exchanged.task e.exchanged.exchange.answer e.exchanged.next h.ended e.exchanged.exchange.asks in
       let same : h.learned.outcome ≡ origin.0 = same_Some h.learned.outcome origin.0 (sym h.learned.is ∙ origin.1) in
@@ -120,24 +122,24 @@ module _ (plan : Plan) (event : Event) (earlier : List Event) (ends : IsNewestEv
       }
 
   -- no entry has the reply
-  begun_by : (listed : Listed) (seat later : Seat) → slice_get event.before.seats event.client ≡ Some seat → IsEventOf event seat later → later.receipts ≡ seat.receipts ++ listed ∷ [] → listed.receipt.committed ≡ false
+  begun_by : (listed : Listed) (server : ℕ) (stop : Option ℕ) (seat later : Seat) → slice_get event.before.seats event.client ≡ Some seat → IsEventOf event server stop seat later → later.receipts ≡ seat.receipts ++ listed ∷ [] → listed.receipt.committed ≡ false
       → IsLengthAt (begins_attempt event.client) (event ∷ earlier) listed.receipt.version
-  begun_by listed seat later at e more none =
-      let told : IsTold listed e.exchanged.work.task e.exchanged.task e.exchanged.exchange.answer = told_of listed seat later e more in
+  begun_by listed server stop seat later at e more none =
+      let told : IsTold listed e.exchanged.work.task e.exchanged.task e.exchanged.exchange.answer = told_of listed server stop seat later e more in
       let unmade : told.outcome.committed ≡ false = sym (ap (λ (o : Outcome). o.committed) told.is) ∙ none in
       let version : listed.receipt.version ≡ e.exchanged.task.snapshot
       = ap (λ (o : Outcome). o.version) told.is
       ∙ (uncommitted e.exchanged.work.task (learnt e.exchanged.work.task e.exchanged.exchange.answer) e.exchanged.exchange.answer told.outcome told.origin unmade
       ∙ done_snapshot e.exchanged.work.task e.exchanged.task e.exchanged.exchange.answer e.exchanged.next e.exchanged.exchange.asks) in
-      subst (IsLengthAt (begins_attempt event.client) (event ∷ earlier)) (sym version) (since_now seat later at e).attempt
+      subst (IsLengthAt (begins_attempt event.client) (event ∷ earlier)) (sym version) (since_now server stop seat later at e).attempt
 
   -- its conflicts are those that were met
-  met_by : (listed : Listed) (pair : ℕ × Key) (seat later : Seat) → slice_get event.before.seats event.client ≡ Some seat → slice_get event.after.seats event.client ≡ Some later → IsEventOf event seat later → later.receipts ≡ seat.receipts ++ listed ∷ []
+  met_by : (listed : Listed) (pair : ℕ × Key) (server : ℕ) (stop : Option ℕ) (seat later : Seat) → slice_get event.before.seats event.client ≡ Some seat → slice_get event.after.seats event.client ≡ Some later → IsEventOf event server stop seat later → later.receipts ≡ seat.receipts ++ listed ∷ []
       → IsAmong pair listed.receipt.conflicts → IsMetIn event.client pair (event ∷ earlier)
-  met_by listed pair seat later was is e more among =
-      let told : IsTold listed e.exchanged.work.task e.exchanged.task e.exchanged.exchange.answer = told_of listed seat later e more in
+  met_by listed pair server stop seat later was is e more among =
+      let told : IsTold listed e.exchanged.work.task e.exchanged.task e.exchanged.exchange.answer = told_of listed server stop seat later e more in
       let pairs : listed.receipt.conflicts ≡ e.exchanged.task.conflicts = ap (λ (o : Outcome). o.conflicts) told.is ∙ told.conflicts in
-      event_met pair event earlier seat later was is e (seats_met pair plan ends.first ends.opening earlier event.before ends.events.2 event.client seat was) (subst (IsAmong pair) pairs among)
+      event_met pair event earlier seat later was is server stop e (seats_met pair plan ends.first ends.opening earlier event.before ends.events.2 event.client seat was) (subst (IsAmong pair) pairs among)
 
   -- ---- a conflict
 
@@ -160,20 +162,20 @@ module _ (plan : Plan) (event : Event) (earlier : List Event) (ends : IsNewestEv
       let count : length (journal_before event) ≡ length event.before.objects.store.journal = length_entries event.before.objects.store.journal in
       record {
         snapshot = snapshot;
-        begun = subst (IsLengthAt (begins_attempt event.client) (event ∷ earlier)) kept (since_now a.seat a.later a.was a.turn).attempt;
+        begun = subst (IsLengthAt (begins_attempt event.client) (event ∷ earlier)) kept (since_now a.server a.stop a.seat a.later a.was a.turn).attempt;
         first = at_answer.1;
         after = omega arith;
         within = omega arith;
       }
 
 pub fronts_begin : FrontsBeginCalls
-fronts_begin plan event earlier listed ends told = fronts_by plan event earlier ends listed told.seat told.later told.was (ends.events.1.event told.seat told.later told.was told.is) told.more
+fronts_begin plan event earlier listed ends told = fronts_by plan event earlier ends listed ends.events.1.event.server ends.events.1.event.stop told.seat told.later told.was (ends.events.1.event.own told.seat told.later told.was told.is) told.more
 
 pub uncommitted_begun : UncommittedRepliesAreBegun
-uncommitted_begun plan event earlier listed ends told none = begun_by plan event earlier ends listed told.seat told.later told.was (ends.events.1.event told.seat told.later told.was told.is) told.more none
+uncommitted_begun plan event earlier listed ends told none = begun_by plan event earlier ends listed ends.events.1.event.server ends.events.1.event.stop told.seat told.later told.was (ends.events.1.event.own told.seat told.later told.was told.is) told.more none
 
 pub conflicts_met : ConflictsWereMet
-conflicts_met plan event earlier listed pair ends told among = met_by plan event earlier ends listed pair told.seat told.later told.was told.is (ends.events.1.event told.seat told.later told.was told.is) told.more among
+conflicts_met plan event earlier listed pair ends told among = met_by plan event earlier ends listed pair ends.events.1.event.server ends.events.1.event.stop told.seat told.later told.was told.is (ends.events.1.event.own told.seat told.later told.was told.is) told.more among
 
 pub conflicts_later : ConflictsAreLater
 conflicts_later plan event earlier entry version key ends a = conflict_by plan event earlier ends entry version key a

@@ -1,5 +1,6 @@
 -- What holds of every list of events, as statements.
-use Rattle.std.specs.Prelude.{◌≡◌, ◌≤◌, ◌<◌, ℕ, List, ◌∷◌, Some, false, length, slice_get}
+use Rattle.std.specs.Prelude.{◌≡◌, ◌≤◌, ◌<◌, ℕ, List, ◌∷◌, Some, true, false, length, slice_get, MatchBool}
+use Rattle.std.specs.List.{list_any}
 use Rattle.conflict_sets.specs.declared.sets.ReadSet.{ReadSet}
 use Rattle.key_schema.specs.Keys.{spelled_key}
 use Rattle.key_schema.specs.declared.key.Key.{Key}
@@ -17,8 +18,11 @@ use Rattle.request_run.specs.Entries.{entries_of}
 use Rattle.world_core.specs.EventList.{AreEvents, Event}
 use Rattle.world_core.specs.Order.{IsOrdered}
 use Rattle.world_core.specs.World.{HasGone, IsOpening, WorldView}
+use Rattle.seat_turns.specs.Servers.{is_due}
 use Rattle.seat_turns.specs.declared.seats.Seat.{Seat}
-use Rattle.event_laws.specs.Moments.{HasAsked, HasTold, IsAmong, IsLengthAt, IsMetIn, IsToldIn, begins_attempt, begins_call, events_before, next_ask}
+use Rattle.seat_turns.specs.declared.servers.ServerCounts.{ServerCounts}
+use Rattle.event_laws.specs.Moments.{HasAsked, HasTold, IsAmong, IsLengthAt, IsMetIn, IsToldIn, asks_server, begins_attempt, begins_call, events_before, makes_entry, next_ask}
+use Rattle.event_laws.specs.Stopping.{GoesOnBehind, HasCountedEvents, HasStoppedBehind}
 
 -- ---- lists of events
 
@@ -114,3 +118,29 @@ UndisturbedAttemptsMeetNone =
     → IsNewestEvent plan event earlier
     → IsLengthAt (begins_attempt event.client) (event ∷ earlier) (length event.before.objects.store.journal)
     → HasAsked event (asks.Commit entry) (answers.Conflict version key) → ⊥
+
+-- ---- stops
+
+-- what a server has counted is what the events and the journal have of it
+abbrev pub CountsAreOfEvents : Type 0
+CountsAreOfEvents =
+    (plan : Plan) (event : Event) (earlier : List Event) (server : ℕ) (counts : ServerCounts)
+    → IsNewestEvent plan event earlier → slice_get event.after.counts server ≡ Some counts
+    → HasCountedEvents (event ∷ earlier) event.after server counts
+
+-- an event changes nothing at the servers that it does not ask
+abbrev pub UnaskedServersStay : Type 0
+UnaskedServersStay =
+    (plan : Plan) (event : Event) (earlier : List Event) (server : ℕ) → IsNewestEvent plan event earlier
+    → asks_server server event ≡ false
+    → slice_get event.after.counts server ≡ slice_get event.before.counts server
+
+-- the server that is asked stops behind the event exactly where the plan has a stop at what it has counted by
+-- then
+abbrev pub StopsComeWhenDue : Type 0
+StopsComeWhenDue =
+    (plan : Plan) (event : Event) (earlier : List Event) (server : ℕ) (old new : ServerCounts)
+    → IsNewestEvent plan event earlier → asks_server server event ≡ true
+    → slice_get event.before.counts server ≡ Some old → slice_get event.after.counts server ≡ Some new
+    → MatchBool (list_any (is_due server (makes_entry event) new) plan.stops)
+    (HasStoppedBehind event earlier server old new) (GoesOnBehind event old new)

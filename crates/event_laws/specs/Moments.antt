@@ -10,17 +10,21 @@ use Rattle.run_record.specs.declared.run.Listed.{Listed}
 use Rattle.request_run.specs.Entries.{entries_of}
 use Rattle.world_core.specs.EventList.{Event}
 use Rattle.seat_turns.specs.Events.{IsEvent}
+use Rattle.seat_turns.specs.Servers.{has_made}
 use Rattle.seat_turns.specs.declared.seats.Seat.{Seat}
 use Rattle.seat_turns.specs.declared.seats.Work.{Work}
 
 -- ---- what a client's next event does first
 
--- it sends the next request, since none is under way
-abbrev pub is_free : Option Work → Bool
-is_free None = true
-is_free (Some work) = false
+-- it sends the next request, since no call is under way
+abbrev pub is_at_rest : Option Work → Option ℕ → Bool
+is_at_rest None None = true
+is_at_rest work again = false
 
--- it begins an attempt: that of the request that it sends, or of the one under way
+abbrev pub is_free : Seat → Bool
+is_free seat = is_at_rest seat.work seat.again
+
+-- it begins an attempt: of the request that it sends, for the first time or again, or of the one under way
 abbrev pub is_begin : Ask → Bool
 is_begin asks.Begin = true
 is_begin ask = false
@@ -29,17 +33,17 @@ abbrev pub next_ask : Option Work → Ask
 next_ask None = asks.Begin
 next_ask (Some work) = work.ask
 
-abbrev pub is_beginning : Option Work → Bool
-is_beginning work = is_begin (next_ask work)
+abbrev pub is_beginning : Seat → Bool
+is_beginning seat = is_begin (next_ask seat.work)
 
 -- ---- the events that do so
 
-abbrev pub has_work : (Option Work → Bool) → Option Seat → Bool
-has_work test None = false
-has_work test (Some seat) = test seat.work
+abbrev pub has_seat : (Seat → Bool) → Option Seat → Bool
+has_seat test None = false
+has_seat test (Some seat) = test seat
 
-abbrev pub is_of : (Option Work → Bool) → ℕ → Event → Bool
-is_of test client event = (event.client == client) && has_work test (slice_get event.before.seats client)
+abbrev pub is_of : (Seat → Bool) → ℕ → Event → Bool
+is_of test client event = (event.client == client) && has_seat test (slice_get event.before.seats client)
 
 -- the event is the first of a call of the client
 abbrev pub begins_call : ℕ → Event → Bool
@@ -48,6 +52,23 @@ begins_call client event = is_of is_free client event
 -- the event's ask is a Begin of the client
 abbrev pub begins_attempt : ℕ → Event → Bool
 begins_attempt client event = is_of is_beginning client event
+
+-- ---- servers
+
+-- the client's request is at this server, or its next one goes there
+abbrev pub is_at : ℕ → Seat → Bool
+is_at server seat = seat.client.server == server
+
+-- the event's ask is one of this server
+abbrev pub asks_server : ℕ → Event → Bool
+asks_server server event = has_seat (is_at server) (slice_get event.before.seats event.client)
+
+-- the event has made an entry
+abbrev pub makes_entry : Event → Bool
+makes_entry event =
+    has_made (entries_of event.before.objects.store.journal) (entries_of event.after.objects.store.journal)
+
+-- ---- lists
 
 -- one of these events passes the test, and just before the newest that does the journal had this length
 abbrev pub IsLengthAt : (Event → Bool) → List Event → ℕ → Type 0
@@ -73,7 +94,10 @@ pub record HasAsked (event : Event) (ask : Ask) (answer : Answer) : Type 0 where
   pub later : Seat
   pub was : slice_get event.before.seats event.client ≡ Some seat
   pub is : slice_get event.after.seats event.client ≡ Some later
-  pub turn : IsEvent event.before.config event.before.attempts event.client
+  -- by this server, behind which this stop came
+  pub server : ℕ
+  pub stop : Option ℕ
+  pub turn : IsEvent event.before.config event.before.attempts event.client server stop
       (entries_of event.before.objects.store.journal) (entries_of event.after.objects.store.journal) seat
       later
   pub ask_is : turn.exchanged.work.ask ≡ ask

@@ -45,9 +45,10 @@ pub record IsRunOf (plan : Plan) (text : List ℕ) : Type 0 where
   pub opening : IsOpening plan first
   pub order : IsOrdered first last
   pub kept : IsWorldRecord last run
-  -- with a single client nothing is left open: its calls are answered one after another,
-  -- each as the plain tree that the calls before it led to answers it, and no call meets a conflict
-  pub alone : (script : Script) → plan.clients ≡ script ∷ [] → run.receipts ≡ receipts_of plan.config script
+  -- with a single client, and where no server is to stop, nothing is left open: its calls are answered one after
+  -- another, each as the plain tree that the calls before it led to answers it, and no call meets a conflict
+  pub alone : (script : Script) → plan.clients ≡ script ∷ [] → plan.stops ≡ []
+      → run.receipts ≡ receipts_of plan.config script
   pub written : text ≡ replies_text run
 
 -- ---- texts that are due

@@ -1,5 +1,6 @@
 -- A request being served: an answer brings its next ask, or its end.
 use Rattle.std.proofs.Common.{◌≡◌, ℕ, ◌<◌, ◌≤◌, ◌+◌, ◌^◌, ◌⊎◌, inl, inr, List, [], ◌∷◌, ◌++◌, Some, true, false, length, sym, ◌∙◌, ap, refl, subst, arith}
+use Rattle.client_core.specs.Files.{IsFileSound}
 use Rattle.conflict_sets.specs.Reads as bytes
 use Rattle.conflict_sets.specs.Rows.{value_at_key, rows_between}
 use Rattle.conflict_sets.specs.declared.sets.Got.{Got}
@@ -34,7 +35,7 @@ use Rattle.run_record.specs.Receipts.{IsConflict}
 use Rattle.run_record.proofs.Growing.{at_only}
 use Rattle.run_record.proofs.Rising.{last_version_above}
 use Rattle.request_run.specs.Answered.{HasKey, IsAnswer, IsExchange, IsAskSpellable, MayAnswer}
-use Rattle.request_run.specs.Entries.{IsGrowth, entries_of, store_with_entry}
+use Rattle.request_run.specs.Entries.{IsGrowth, IsGrowthOf, entries_of, store_with_entry}
 use Rattle.request_run.specs.Served.{AreCovered, AreEarlier, CameTo, HasMetConflicts, IsBegun, AreReadsCovered, IsOwnEntry, IsAskPending, IsTaskReady, IsTaskServed}
 use Rattle.run_record.specs.Sound.{IsSoundJournal}
 use Rattle.request_run.specs.Sound.{IsStoreOpening}
@@ -47,22 +48,26 @@ use Rattle.request_run.proofs.Rows.{entries-push}
 
 -- ---- the beginning
 
+-- a request that is sent for the first time has met nothing
+pub met_first : (C : Settings) (journal : List Entry) (request : Request) → request.client.0 < 2 ^ 128
+    → AreEarlier journal request → HasMetConflicts C journal request (length journal) []
+met_first C journal request small earlier =
+    record {
+      small = small;
+      front_in = omega arith;
+      before = λ place e at mine l. earlier place e at mine;
+      since = λ place e at mine l. absurd (omega (arith, at_within journal place e at));
+      conflicts_are = (tt, tt);
+      last = omega arith;
+    }
+
 -- a request whose task is new
-pub begins : (C : Settings) (attempts : ℕ) (journal : List Entry) (request : Request) → 1 ≤ attempts → request.client.0 < 2 ^ 128 → AreEarlier journal request
-    → IsTaskReady C attempts journal request (length journal) (record (new_task C attempts request) { waiting = waits.Beginning }) asks.Begin
-begins C attempts journal request some small earlier =
+pub begins : (C : Settings) (attempts : ℕ) (journal : List Entry) (request : Request) (front : ℕ) → 1 ≤ attempts
+    → HasMetConflicts C journal request front []
+    → IsTaskReady C attempts journal request front
+    (record (new_task C attempts request) { waiting = waits.Beginning }) asks.Begin
+begins C attempts journal request front some met =
     (record { config = refl; attempts_are = refl; request_is = refl; met = met; begun = λ b. absurd (cc) }, (refl, refl, some))
-  where
-    met : HasMetConflicts C journal request (length journal) []
-    met =
-        record {
-          small = small;
-          front_in = omega arith;
-          before = λ place e at mine l. earlier place e at mine;
-          since = λ place e at mine l. absurd (omega (arith, at_within journal place e at));
-          conflicts_are = (tt, tt);
-          last = omega arith;
-        }
 
 -- ---- the ends of a task
 
@@ -96,6 +101,7 @@ module _ (journal : List Entry) (front : ℕ) (task : TaskView) (s : IsSoundJour
       (subst (MayTell task.request.call) (sym reply.reply) update)
       (subst (λ (r : Reply). AreAttempts task.attempts r (length outcome.conflicts)) (sym reply.reply) parts.2)
       none
+      (subst (IsFileSound task.config) (sym reply.reply) tt)
 
   -- the entry stands at the journal's end
   made : (entry : Entry) → IsAskPending task.config task (asks.Commit entry) → (version : ℕ) → IsSoundJournal task.config (journal ++ entry ∷ []) → version ≡ length journal + 1 → IsMadeReply task version outcome → Came (journal ++ entry ∷ [])
@@ -114,7 +120,6 @@ module _ (journal : List Entry) (front : ℕ) (task : TaskView) (s : IsSoundJour
             number = ap (λ (q : Request). q.number) p.2;
             stamp = ap (λ (q : Request). q.stamp) p.2;
             call = ap (λ (q : Request). q.call) p.2;
-            server = ap (λ (q : Request). q.server) p.2;
             behind = behind;
           }
 
@@ -130,13 +135,12 @@ starts C attempts request after (asks.Commit entry) a = absurd a.2
 starts C attempts request after asks.Done (outcome, is, conflicts, origin) = absurd origin
 starts C attempts request after ask a = absurd a
 
-pub begins_ready : (C : Settings) (attempts : ℕ) (journal : List Entry) (request : Request) (front : ℕ) (after : TaskView) (ask : Ask) → front ≡ length journal → 1 ≤ attempts → request.client.0 < 2 ^ 128 → AreEarlier journal request
+pub begins_ready : (C : Settings) (attempts : ℕ) (journal : List Entry) (request : Request) (front : ℕ) (after : TaskView) (ask : Ask) → 1 ≤ attempts → HasMetConflicts C journal request front []
     → Asks (new_task C attempts request) answers.Start after ask → IsTaskReady C attempts journal request front after ask
-begins_ready C attempts journal request front after ask now some small earlier a =
+begins_ready C attempts journal request front after ask some met a =
     let is = starts C attempts request after ask a in
-    subst (λ n. IsTaskReady C attempts journal request n after ask) (sym now)
-    (subst (IsTaskReady C attempts journal request (length journal) after) (sym is.1)
-    (subst (λ t. IsTaskReady C attempts journal request (length journal) t asks.Begin) (sym is.0) (begins C attempts journal request some small earlier)))
+    subst (IsTaskReady C attempts journal request front after) (sym is.1)
+    (subst (λ t. IsTaskReady C attempts journal request front t asks.Begin) (sym is.0) (begins C attempts journal request front some met))
 
 -- ---- an answer
 
@@ -243,6 +247,7 @@ module _ (journal : List Entry) (front : ℕ) (task : TaskView) (s : IsSoundJour
         (subst (MayTell task.request.call) (sym spent.reply) update)
         (subst (λ (r : Reply). AreAttempts task.attempts r (length outcome.conflicts)) (sym spent.reply) (ap (λ (ps : List (ℕ × Key)). length ps) same ∙ spent.attempts))
         none
+        (subst (IsFileSound task.config) (sym spent.reply) tt)
 
   -- ---- the next ask, or the end
 
@@ -356,10 +361,10 @@ may_take C old new task ask answer p h = absurd h
 
 -- the store stays, or has the entry that waits
 module _ (store after : Store MetaEntry) (task : TaskView) (ask : Ask) (grows : (after ≡ store) ⊎ ((entry : Entry) × (ask ≡ asks.Commit entry) × (after ≡ store_with_entry store entry))) where
-  pub growth_of : (C : Settings) → IsAskPending C task ask → IsGrowth store after task.request.client
+  pub growth_of : (C : Settings) → IsAskPending C task ask → IsGrowthOf store after task.request
   growth_of C pending = elim grows [
     | inl same ↦ inl same
-    | inr grew ↦ (let p : IsAskPending C task (asks.Commit grew.0) = subst (IsAskPending C task) grew.1 pending in inr (grew.0, grew.2, ap (λ (q : Request). q.client) p.2))
+    | inr grew ↦ (let p : IsAskPending C task (asks.Commit grew.0) = subst (IsAskPending C task) grew.1 pending in inr (grew.0, grew.2, p.2))
   ]
 
   pub covered_after : (C : Settings) (attempts front : ℕ) (request : Request) → IsTaskServed C attempts (entries_of store.journal) request front task → IsAskPending C task ask → AreCovered C (entries_of store.journal) → AreCovered C (entries_of after.journal)
@@ -369,6 +374,11 @@ module _ (store after : Store MetaEntry) (task : TaskView) (ask : Ask) (grows : 
         subst (AreCovered C) (sym (ap (λ (s : Store MetaEntry). entries_of s.journal) grew.2 ∙ entries-push store.journal (record { entry = grew.0 })))
         (covered_on h grew.0 (subst (IsAskPending C task) grew.1 pending) all)
   ]
+
+-- the request's entry is its client's
+pub growth_by : (store after : Store MetaEntry) (request : Request) → IsGrowthOf store after request → IsGrowth store after request.client
+growth_by store after request (inl same) = inl same
+growth_by store after request (inr grew) = inr (grew.0, grew.1, ap (λ (q : Request). q.client) grew.2)
 
 module _ {store after : Store MetaEntry} {client : ClientId} (growth : IsGrowth store after client) where
   pub open_grown : IsStoreOpening store → IsStoreOpening after

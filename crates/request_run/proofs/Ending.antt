@@ -1,6 +1,6 @@
 -- Each way in which a request ends, and what came of it.
-use Rattle.std.proofs.Common.{◌≡◌, ℕ, ◌<◌, ◌≤◌, ◌+◌, ◌^◌, inl, inr, List, Option, Some, None, Bool, true, false, cond, length, sym, ◌∙◌, ap, subst, arith, eq-eqb}
-use Rattle.std.specs.Prelude.{MatchBool, MatchOption, ⊤, ◌⊎◌, nat_lt, slice_get}
+use Rattle.std.proofs.Common.{◌≡◌, [], ℕ, ◌<◌, ◌≤◌, ◌+◌, ◌^◌, inl, inr, List, Option, Some, None, Bool, true, false, cond, length, sym, ◌∙◌, ap, subst, arith, eq-eqb}
+use Rattle.std.specs.Prelude.{MatchBool, MatchOption, ⊤, ◌⊎◌, nat_lt}
 use Rattle.std.specs.FinMap.{get}
 use Rattle.std.proofs.lemmas.Bool.{cases_lt}
 use Rattle.std.proofs.lemmas.Option.{same_Some}
@@ -8,6 +8,8 @@ use Rattle.conflict_sets.specs.Reads as bytes
 use Rattle.conflict_sets.specs.Rows.{value_at_key}
 use Rattle.conflict_sets.specs.declared.sets.Got.{Got}
 use Rattle.conflict_sets.specs.declared.sets.ReadSet.{ReadSet}
+use Rattle.client_core.specs.Client.{sent_to}
+use Rattle.client_core.specs.Files.{IsFileSound}
 use Rattle.fs_base.specs.Config.{Settings}
 use Rattle.fs_base.specs.declared.call.Request.{Request}
 use Rattle.fs_base.specs.declared.code.Code.TheVariants as codes
@@ -40,6 +42,7 @@ use Rattle.run_record.proofs.OneMore.{last_version_low}
 use Rattle.run_record.proofs.Rising.{last_version_above}
 use Rattle.run_record.proofs.TreeReplies.{IsTreeReply, accepted_reply, attempts_left, may_tell, new_reply, query_reply}
 use Rattle.histories.proofs.Lists.{at_within}
+use Rattle.request_run.proofs.Files.{files_fit, made_fits, new_fits, query_fits}
 use Rattle.request_run.specs.Served.{CameTo, EachOf, HasMetConflicts, IsBegun, IsOwnEntry}
 use Rattle.run_record.specs.Sound.{IsSoundJournal}
 use Rattle.run_record.proofs.History.{entry_sound, kept_above, kept_by, no_refusal, once, row_kept, rows_ascend, rows_tree}
@@ -63,6 +66,19 @@ shows_told : (C : Settings) (journal : List Entry) (q : Request) (front : ℕ) (
 shows_told C journal q front outcome (Refused codes.Conflict) h told = absurd h
 shows_told C journal q front outcome (Refused codes.StoreFull) h told = absurd h
 shows_told C journal q front outcome reply h told = told
+
+-- what a request has met is forgotten where it is sent again, and its front is kept
+pub met_again : (C : Settings) (journal : List Entry) (q : Request) (front : ℕ) (pairs : List (ℕ × Key)) (server : ℕ)
+    → HasMetConflicts C journal q front pairs → HasMetConflicts C journal (sent_to q server) front []
+met_again C journal q front pairs server h =
+    record {
+      small = h.small;
+      front_in = h.front_in;
+      before = h.before;
+      since = λ place e at mine l. (let own = h.since place e at mine l in record { number = own.number; stamp = own.stamp; call = own.call; behind = l });
+      conflicts_are = (tt, tt);
+      last = h.front_in;
+    }
 
 module _ (C : Settings) (journal : List Entry) (s : IsSoundJournal C journal) where
   -- ---- a request that has met these conflicts
@@ -136,6 +152,20 @@ module _ (C : Settings) (journal : List Entry) (s : IsSoundJournal C journal) wh
         tree_told (inr (inl kept)) = new_reply C T q 0 reply (fresh_read kept) (told 0)
         tree_told (inr (inr stale)) = subst IsTreeReply (sym stale.1) tt
 
+        file_told : (is_query q.call ≡ true) ⊎ (IsKeptBefore reads q ⊎ IsReplyStale reply) → IsFileSound C reply
+        file_told (inl query) = query_fits C T (files_fit C (journal_rows C journal snapshot) T (rows_tree C journal s snapshot)) q reply query (told 0)
+        file_told (inr (inl kept)) = new_fits C T (files_fit C (journal_rows C journal snapshot) T (rows_tree C journal s snapshot)) q reply (fresh_read kept) (told 0)
+        file_told (inr (inr stale)) = subst (IsFileSound C) (sym stale.1) tt
+
+  -- a file that an entry's reply shows was in the tree before it
+  file_made : (place : ℕ) (e : Entry) → EntryAt journal place e → IsFileSound C e.reply
+  file_made place e at =
+      let rows : List Row = journal_rows C journal place in
+      let V : Tree = tree_at C journal place in
+      let sound = entry_sound C journal s place e at in
+      let made = sound.0.makes rows V (rows_ascend C journal s place) (rows_tree C journal s place) sound.1 in
+      made_fits C V (files_fit C rows V (rows_tree C journal s place)) made.0 e.request e.reply made.1
+
   -- ---- what came of it
 
   module _ (attempts : ℕ) (q : Request) (front : ℕ) (outcome : Outcome) (h : HasMetConflicts C journal q front outcome.conflicts) where
@@ -161,9 +191,6 @@ module _ (C : Settings) (journal : List Entry) (s : IsSoundJournal C journal) wh
         record {
           outcome_is = marked true mark
               (record { place = place; version = version; entry = e; at = at; client = mine; number = own.number; stamp = own.stamp; call = own.call; reply = reply; above = behind });
-          made_at = λ m p x at_x v. (
-              let same : place ≡ p = (let a : outcome.version ≡ place + 1 = version in let b : outcome.version ≡ p + 1 = v in omega arith) in
-              ap (λ (y : Entry). y.request.server) (sym (same_Some e x (sym at ∙ (ap (slice_get journal) same ∙ at_x)))) ∙ own.server);
           may = may_tell q.call outcome.reply accepted;
           met = attempts_left attempts outcome.reply (length outcome.conflicts) accepted left;
           conflicts = h.conflicts_are;
@@ -171,21 +198,24 @@ module _ (C : Settings) (journal : List Entry) (s : IsSoundJournal C journal) wh
           within = omega (arith, up, low, h.last);
           only = λ p x at_x its l.
               (mark, version ∙ ap (λ n. n + 1) (once C journal s place p e x at at_x (mine ∙ sym its) (own.number ∙ sym (h.since p x at_x its l).number)));
+          again = met_again C journal q front outcome.conflicts q.server h;
+          files = subst (IsFileSound C) reply (file_made place e at);
         }
 
     -- none has it
     pub came_seen : outcome.committed ≡ false → front ≤ outcome.version → outcome.version ≤ length journal → Shows C journal q front outcome outcome.reply → MayTell q.call outcome.reply → AreAttempts attempts outcome.reply (length outcome.conflicts)
-        → HasNone journal q → CameTo C attempts journal q front outcome
-    came_seen mark above within shown may met none =
+        → HasNone journal q → IsFileSound C outcome.reply → CameTo C attempts journal q front outcome
+    came_seen mark above within shown may met none file =
         record {
           outcome_is = marked false mark (record { above = above; within = within; shown = shown });
-          made_at = λ m p x at_x v. absurd (let f : true ≡ false = sym m ∙ mark in cc);
           may = may;
           met = met;
           conflicts = h.conflicts_are;
           above = above;
           within = omega (arith, low, h.last);
           only = λ p x at_x its l. absurd (none p x at_x its (h.since p x at_x its l).number);
+          again = met_again C journal q front outcome.conflicts q.server h;
+          files = file;
         }
 
     module _ (snapshot : ℕ) (reads : ReadSet) (b : IsBegun C journal q floor snapshot reads) (left : length outcome.conflicts < attempts) where
@@ -204,6 +234,7 @@ module _ (C : Settings) (journal : List Entry) (s : IsSoundJournal C journal) wh
           (may_tell q.call outcome.reply tree)
           (attempts_left attempts outcome.reply (length outcome.conflicts) tree left)
           (none_told q front outcome.conflicts h floor snapshot reads b outcome.reply gives told.new)
+          (file_told q front outcome.conflicts h floor snapshot reads b outcome.reply gives told.new)
 
       -- an earlier attempt committed it
       pub came_kept : (task : TaskView) (key : Key) (got : Got) → task.waiting ≡ waits.Reading (asks.Get key) → got.value ≡ value_at_key (journal_rows C journal snapshot) (spelled_key key)

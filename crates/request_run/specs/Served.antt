@@ -1,5 +1,6 @@
 -- A request being served, from answer to answer.
 use Rattle.std.specs.Prelude.{◌≡◌, ◌≢◌, ◌≤◌, ◌<◌, ℕ, ◌+◌, ◌^◌, List, [], ◌∷◌, true, false, length, Some}
+use Rattle.client_core.specs.Files.{IsFileSound}
 use Rattle.conflict_sets.specs.Reads as bytes
 use Rattle.conflict_sets.specs.declared.sets.KeyRead.{KeyRead}
 use Rattle.conflict_sets.specs.declared.sets.ReadSet.{ReadSet}
@@ -67,13 +68,12 @@ abbrev pub AreEarlier : List Entry → Request → Type 0
 AreEarlier journal request =
     EachOf journal request.client (λ place entry. entry.request.number < request.number)
 
--- an entry of the request's client is of that request, and was made from this version on
+-- an entry of the request's client is of that request but for the server, which may have stopped behind it,
+-- and was made from this version on
 pub record IsOwnEntry (request : Request) (floor place : ℕ) (entry : Entry) : Type 0 where
   pub number : entry.request.number ≡ request.number
   pub stamp : entry.request.stamp ≡ request.stamp
   pub call : entry.request.call ≡ request.call
-  -- no other server was asked
-  pub server : entry.request.server ≡ request.server
   pub behind : floor ≤ place
 
 -- ---- between two asks
@@ -130,17 +130,10 @@ IsAskPending C task ask = ⊥
 
 -- ---- the end
 
--- the entry that the outcome names was made where the request was sent
-abbrev pub IsMadeAt : List Entry → ℕ → Outcome → Type 0
-IsMadeAt journal server outcome =
-    outcome.committed ≡ true → (place : ℕ) (entry : Entry) → EntryAt journal place entry
-    → outcome.version ≡ place + 1 → entry.request.server ≡ server
-
 -- what a request came to, by its outcome
 pub record CameTo (C : Settings) (attempts : ℕ) (journal : List Entry) (request : Request) (front : ℕ)
     (outcome : Outcome) : Type 0 where
   pub outcome_is : IsOutcome C journal request front outcome
-  pub made_at : IsMadeAt journal request.server outcome
   pub may : MayTell request.call outcome.reply
   pub met : AreAttempts attempts outcome.reply (length outcome.conflicts)
   pub conflicts : AreConflicts C journal request front outcome.conflicts
@@ -149,6 +142,10 @@ pub record CameTo (C : Settings) (attempts : ℕ) (journal : List Entry) (reques
   -- the outcome names each entry that the client has made since the front
   pub only : EachOf journal request.client
       (λ place entry. front ≤ place → (outcome.committed ≡ true) × (outcome.version ≡ place + 1))
+  -- and where it isn't heard, the request may begin again, with the same front and no conflict
+  pub again : HasMetConflicts C journal request front []
+  -- a file that the reply shows is laid out as the configuration asks
+  pub files : IsFileSound C outcome.reply
 
 -- after an answer: the next ask waits, or there is an outcome
 abbrev pub IsTaskReady : Settings → ℕ → List Entry → Request → ℕ → TaskView → Ask → Type 0

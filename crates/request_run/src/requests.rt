@@ -1,14 +1,15 @@
 //! A request being served, from its first ask to its end.
 
-ghost use Rattle.std.specs.Prelude.{◌≡◌, ◌≤◌, ◌<◌, ◌^◌, length, IfOk, OnOk};
+ghost use Rattle.std.specs.Prelude.{◌≡◌, ◌≤◌, List, [], length, IfOk, OnOk};
 ghost use Rattle.meta_task.specs.Task.{new_task};
 ghost use Rattle.meta_task.specs.declared.waiting.Waiting.TheVariants as waits;
 ghost use Rattle.path_walk.specs.Requests.{IsRequest};
 ghost use Rattle.request_run.specs.Answered.{IsExchange};
-ghost use Rattle.request_run.specs.Entries.{IsGrowth, entries_of};
-ghost use Rattle.request_run.specs.Served.{AreCovered, AreEarlier, IsAskPending, IsTaskReady, IsTaskServed};
+ghost use Rattle.request_run.specs.Entries.{IsGrowthOf, entries_of};
+ghost use Rattle.request_run.specs.Served.{AreCovered, HasMetConflicts, IsAskPending, IsTaskReady, IsTaskServed};
 ghost use Rattle.request_run.specs.Sound.{IsStoreOpening};
 ghost use Rattle.txn_task.specs.declared.messages.Ask.TheVariants as asks;
+ghost use Rattle.txn_task.specs.declared.messages.Entry.{Entry};
 
 use crate::answers::sound_store;
 use crate::exchanges::exchange;
@@ -29,34 +30,28 @@ pub struct Serving {
     pub front: u64,
 }
 
-/// A request's task, which waits for the answer to its first ask; the call begins now.
+/// A request's task, which waits for the answer to its first ask; its call began when the journal was as long
+/// as the front.
 pub fn begin(
     alloc: Global,
-    store: &KvState<MetaEntry>,
     config: Config,
     attempts: u8,
     request: Request,
+    front: u64,
 ) -> Result<Serving, Memory>
     requires valid { IsRequest config request }
-    requires small { request.client.0 < 2 ^ 128 }
     requires from { 1 ≤ attempts }
     requires to { attempts ≤ ATTEMPTS }
-    requires earlier { AreEarlier (entries_of store.now.journal) request }
     ensures task { IfOk result
         (λ begun. begun.task ≡ record (new_task config attempts request) { waiting = waits.Beginning }) }
     ensures ask { IfOk result (λ begun. begun.ask ≡ asks.Begin) }
-    ensures front { IfOk result (λ begun. begun.front ≡ length (entries_of store.now.journal)) }
-    ensures served { IfOk result
-        (λ begun. IsTaskReady config attempts (entries_of store.now.journal) request begun.front begun.task
-        begun.ask) }
+    ensures front { IfOk result (λ begun. begun.front ≡ front) }
+    ensures served { (journal : List Entry) → HasMetConflicts config journal request front []
+        → IfOk result (λ begun. IsTaskReady config attempts journal request front begun.task begun.ask) }
 {
     let mut task = MetaTask::new(alloc, request, config, attempts)?;
     let ask = task.next(Answer::Start)?;
-    Ok(Serving {
-        task,
-        ask,
-        front: store.front(),
-    })
+    Ok(Serving { task, ask, front })
 }
 
 /// The ask that waits is answered by the store: the next one waits, or the request has ended.
@@ -76,7 +71,7 @@ pub fn serve(
         (λ next. IsExchange store.old.config (entries_of store.old.journal) (entries_of store.new.journal)
         serving.task serving.ask next.task next.ask) }
     ensures front { IfOk result (λ next. next.front ≡ serving.front) }
-    ensures grows { IsGrowth store.old store.new serving.task.request.client }
+    ensures grows { IsGrowthOf store.old store.new serving.task.request }
     ensures few { OnOk result (length store.new.journal ≤ JOURNAL_ENTRIES) }
     ensures covered { AreCovered store.old.config (entries_of store.old.journal)
         → OnOk result (AreCovered store.old.config (entries_of store.new.journal)) }

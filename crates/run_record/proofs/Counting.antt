@@ -1,19 +1,17 @@
--- How many conflicts receipts have: each of theirs is an entry's, and there is a receipt for each operation.
-use Rattle.std.proofs.Common.{◌≡◌, ℕ, suc, ◌+◌, ◌*◌, ◌^◌, ◌<◌, ◌≤◌, List, [], ◌∷◌, length, refl, ap, ◌∙◌, arith}
+-- How many conflicts receipts have: each of theirs is an entry's, and there are no more receipts than operations.
+use Rattle.std.proofs.Common.{◌≡◌, ℕ, ◌+◌, ◌*◌, ◌^◌, ◌<◌, ◌≤◌, List, [], ◌∷◌, length, ap, ◌∙◌, arith}
 use Rattle.fs_base.specs.Config.{Settings}
 use Rattle.fs_base.specs.declared.ids.ClientId.{ClientId}
 use Rattle.key_schema.specs.declared.key.Key.{Key}
 use Rattle.txn_task.specs.declared.messages.Entry.{Entry}
 use Rattle.client_core.specs.Plans.{ops_in}
-use Rattle.client_core.specs.declared.plan.Op.{Op}
 use Rattle.client_core.specs.declared.plan.Script.{Script}
-use Rattle.run_record.specs.Follow.{Follow}
 use Rattle.run_record.specs.Receipts.{front_of, AreLater, AreReceipts, IsSection, NamesLater}
 use Rattle.run_record.specs.Right.{AreSections, conflicts_in}
 use Rattle.run_record.specs.declared.run.Listed.{Listed}
 use Rattle.histories.proofs.Lists.{at_within}
 use Rattle.run_record.proofs.Counts.{conflicts-append}
-use Rattle.run_record.proofs.Replaying.{follows}
+use Rattle.run_record.proofs.Replaying.{few_receipts}
 use Rattle.run_record.proofs.Served.{served}
 
 -- ---- one receipt
@@ -45,13 +43,6 @@ module _ (C : Settings) (attempts : ℕ) (journal : List Entry) (short : length 
       let others : conflicts_in rest ≤ length rest * 200000 = receipts_few client rest h.1 in
       omega arith
 
-  -- a receipt for each operation
-  follow_length : (k : ℕ) (script : Script) (op : ℕ) (steps : List Op) (receipts : List Listed) → Follow k script op steps receipts → length receipts ≡ length steps
-  follow_length k script op [] [] h = refl
-  follow_length k script op [] (listed ∷ rest) h = absurd h
-  follow_length k script op (step ∷ steps) [] h = absurd h
-  follow_length k script op (step ∷ steps) (listed ∷ rest) h = ap (λ (n : ℕ). suc n) (follow_length k script (op + 1) steps rest h.4)
-
   sections_few : (k : ℕ) (scripts : List Script) (receipts : List Listed) → AreSections C attempts journal k scripts receipts → conflicts_in receipts ≤ ops_in scripts * 200000
   sections_few k [] receipts h =
       let none : conflicts_in receipts ≡ 0 = ap (λ (rs : List Listed). conflicts_in rs) h in
@@ -62,7 +53,7 @@ module _ (C : Settings) (attempts : ℕ) (journal : List Entry) (short : length 
       let section : IsSection C attempts journal k script own = h.3 in
       let parts : conflicts_in receipts ≡ conflicts_in own + conflicts_in rest = ap (λ (rs : List Listed). conflicts_in rs) h.2 ∙ conflicts-append own rest in
       let first : conflicts_in own ≤ length own * 200000 = receipts_few script.id own section.each in
-      let count : length own ≡ length script.ops = follow_length k script 0 script.ops own (follows C attempts journal k script own section) in
+      let count : length own ≤ length script.ops = few_receipts C attempts journal k script own section in
       let others : conflicts_in rest ≤ ops_in scripts * 200000 = sections_few (k + 1) scripts rest h.4 in
       omega arith
 

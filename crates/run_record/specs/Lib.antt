@@ -8,5 +8,6 @@ pub mod Replies
 pub mod ReplyText
 pub mod Right
 pub mod Sound
+pub mod Stops
 pub mod Touched
 pub mod Words

@@ -1,5 +1,5 @@
 -- What a client's receipts owe to the journal and to its script.
-use Rattle.std.specs.Prelude.{◌≡◌, ◌≢◌, ◌⊎◌, ◌≤◌, ◌<◌, ℕ, ◌+◌, true, List, [], ◌∷◌, length, map, All, Some, MatchOption, replicate}
+use Rattle.std.specs.Prelude.{◌≡◌, ◌≢◌, ◌⊎◌, ◌≤◌, ◌<◌, ℕ, ◌+◌, ◌%◌, true, List, [], ◌∷◌, length, map, All, Some, MatchOption, replicate}
 use Rattle.conflict_sets.specs.declared.sets.Write.{Write}
 use Rattle.fs_base.specs.Config.{Settings}
 use Rattle.fs_base.specs.declared.call.Request.{Request}
@@ -170,6 +170,17 @@ HasReceipt [] place = ⊥
 HasReceipt (listed ∷ rest) place =
     ((listed.receipt.committed ≡ true) × (listed.receipt.version ≡ place + 1)) ⊎ HasReceipt rest place
 
+-- where a client is that stops have moved so often, one server on each time
+abbrev pub server_moved : Settings → ℕ → ℕ → ℕ
+server_moved C home moved = (home + moved) % C.servers
+
+-- the server of each receipt is the home, moved on by one for each stop told so far, its own ones too
+abbrev pub AreMovedOn : Settings → ℕ → ℕ → List Listed → Type 0
+AreMovedOn C home moved [] = Unit {0}
+AreMovedOn C home moved (listed ∷ rest) =
+    (listed.receipt.server ≡ Some (server_moved C home (moved + length listed.receipt.gone)))
+    × AreMovedOn C home (moved + length listed.receipt.gone) rest
+
 -- all the receipts of a client: those that its steps tell, run over what its requests came to, to the
 -- script's end
 pub record IsSection (C : Settings) (attempts : ℕ) (journal : List Entry) (k : ℕ) (script : Script)
@@ -177,8 +188,7 @@ pub record IsSection (C : Settings) (attempts : ℕ) (journal : List Entry) (k :
   pub courses : List Course
   pub told : map (λ listed. listed.receipt) own ≡ receipts_along (new_client C script) courses
   pub ended : has_ended (after_courses (new_client C script) courses) ≡ true
-  -- no server stops yet
-  pub none_gone : All (λ listed. listed.receipt.gone ≡ []) own
   pub ordinals : All (λ listed. listed.client ≡ k) own
   pub each : AreReceipts C attempts journal script.id own
   pub rises : Rises 0 own
+  pub moved : AreMovedOn C script.home 0 own

@@ -18,6 +18,7 @@ use Rattle.client_core.specs.declared.plan.Plan.{Plan}
 use Rattle.client_core.specs.declared.plan.Script.{Script}
 use Rattle.run_record.specs.Legal.{EntryAt, IsLegalJournal, journal_rows, tree_at}
 use Rattle.run_record.specs.Receipts.{IsSection}
+use Rattle.run_record.specs.Stops.{AllPlanned, HasGoneReceipt, StopsBehind}
 use Rattle.run_record.specs.Touched.{AreTouched}
 use Rattle.run_record.specs.declared.run.Listed.{Listed}
 use Rattle.run_record.specs.declared.run.Record.{Record}
@@ -113,4 +114,10 @@ pub record IsRightRecord (plan : Plan) (run : Record) : Type 0 where
   -- each operation has its receipt, and each entry exactly one that names it
   pub sections : AreSections plan.config plan.attempts run.entries 0 (scripts_in plan) run.receipts
   pub named : (place : ℕ) → place < length run.entries → count_by (names_place place) run.receipts ≡ 1
+  -- no server stopped more often than the plan has it, and where one was to stop behind an entry, the receipt
+  -- that names the entry tells of it
+  pub planned : AllPlanned plan.stops run.entries run.receipts
+  pub told : (place : ℕ) (entry : Entry) → EntryAt run.entries place entry
+      → StopsBehind plan.stops run.entries place entry
+      → HasGoneReceipt run.receipts place entry.request.server
   pub summary : run.summary ≡ summary_of plan.config run.clients run.receipts run.entries

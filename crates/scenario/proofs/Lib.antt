@@ -1,3 +1,4 @@
+mod Alike
 mod Distinct
 pub mod Rules
 mod Values

@@ -1,9 +1,11 @@
 -- JSON values as lists, and what stands at their keys.
-use Rattle.std.specs.Prelude.{ℕ, List, [], ◌∷◌, Bool, false, Option, unwrap_or, option_map, option_and_then}
+use Rattle.std.specs.Prelude.{ℕ, List, [], ◌∷◌, Bool, false, Option, Some, None, Result, Ok, unwrap_or, option_map, option_and_then}
 use Rattle.std.specs.List.{list_any, list_all}
+use Rattle.std.specs.Option.{ok_or}
 use Rattle.std.specs.Str.{bytes_eq}
 use Rattle.serde_json.specs.Data.{Data, Items, no_items, item, Members, no_members, member}
 use Rattle.serde_json.specs.Find.{get, as_str, as_array, as_object}
+use Rattle.scenario.specs.declared.broken.Broken.{Broken}
 
 abbrev pub list_of : Items → List Data
 list_of no_items = []
@@ -28,3 +30,12 @@ array_at name d = option_map list_of (option_and_then as_array (get name d))
 
 abbrev pub array_in : Data → Option (List Data)
 array_in d = option_map list_of (as_array d)
+
+-- no elements where nothing stands
+abbrev pub elements_in : Broken → Option Data → Result (List Data) Broken
+elements_in broken None = Ok []
+elements_in broken (Some d) = ok_or (array_in d) broken
+
+-- the elements of the array at a key that may be missing
+abbrev pub elements_at : List ℕ → Broken → Data → Result (List Data) Broken
+elements_at name broken d = elements_in broken (get name d)

@@ -4,3 +4,4 @@ pub mod Numbers
 pub mod Ops
 pub mod Scenario
 pub mod Schedule
+pub mod Stops

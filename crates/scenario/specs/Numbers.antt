@@ -9,6 +9,10 @@ use Rattle.scenario.specs.declared.broken.Broken.{Broken}
 abbrev pub whole_number : Data → Option ℕ
 whole_number d = option_and_then as_u64 (as_number d)
 
+-- where the key must be there
+abbrev pub whole_number_at : List ℕ → Data → Option ℕ
+whole_number_at name d = option_and_then whole_number (get name d)
+
 -- a number that was read and that the test takes
 abbrev pub in_range : (ℕ → Bool) → Option ℕ → Result (Option ℕ) Broken
 in_range fits None = Err not_built

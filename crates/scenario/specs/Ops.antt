@@ -15,6 +15,7 @@ use Rattle.scenario.specs.declared.broken.Broken.{Broken}
 use Rattle.scenario.specs.declared.ops.Making.{Making}
 use Rattle.scenario.specs.declared.ops.OpKind.{OpKind}
 use Rattle.scenario.specs.declared.ops.OpKind.TheVariants as kinds
+use Rattle.client_core.specs.declared.descriptors.TheConstants.{DESCRIPTORS}
 use Rattle.client_core.specs.declared.plan.Op.{Op}
 use Rattle.client_core.specs.declared.plan.Op.TheVariants as ops
 
@@ -29,28 +30,37 @@ kind_table =
     ∷ (codes "link", kinds.Link) ∷ (codes "unlink", kinds.Unlink) ∷ (codes "rmdir", kinds.Rmdir)
     ∷ (codes "rename", kinds.Rename)
     ∷ (codes "lookup", kinds.Lookup) ∷ (codes "stat", kinds.Stat) ∷ (codes "list", kinds.List)
-    ∷ (codes "readlink", kinds.Readlink) ∷ []
+    ∷ (codes "readlink", kinds.Readlink)
+    ∷ (codes "open", kinds.Open) ∷ (codes "openr", kinds.Openr) ∷ (codes "fstat", kinds.Fstat) ∷ []
 
 abbrev pub kind_of_op : List ℕ → Option OpKind
 kind_of_op name = named name kind_table
 
+-- those of a place, and further ones
+abbrev pub at_place : List (List ℕ) → List (List ℕ)
+at_place keys = codes "path" ∷ codes "dir" ∷ keys
+
 -- the keys that an operation has beside those of every one
 abbrev pub own_keys : OpKind → List (List ℕ)
-own_keys kinds.Mkdir = codes "mode" ∷ codes "chunk" ∷ codes "stripe" ∷ []
-own_keys kinds.Create = codes "mode" ∷ codes "chunk" ∷ codes "stripe" ∷ []
-own_keys kinds.Symlink = codes "target" ∷ []
-own_keys kinds.Setattr = codes "mode" ∷ codes "uid" ∷ codes "gid" ∷ codes "atime" ∷ codes "mtime" ∷ []
-own_keys kinds.Link = codes "path2" ∷ codes "dir2" ∷ []
-own_keys kinds.Unlink = []
-own_keys kinds.Rmdir = []
-own_keys kinds.Rename = codes "path2" ∷ codes "dir2" ∷ []
-own_keys kinds.Lookup = []
-own_keys kinds.Stat = []
-own_keys kinds.List = []
-own_keys kinds.Readlink = []
+own_keys kinds.Mkdir = at_place (codes "mode" ∷ codes "chunk" ∷ codes "stripe" ∷ [])
+own_keys kinds.Create = at_place (codes "mode" ∷ codes "chunk" ∷ codes "stripe" ∷ [])
+own_keys kinds.Symlink = at_place (codes "target" ∷ [])
+own_keys kinds.Setattr =
+    at_place (codes "mode" ∷ codes "uid" ∷ codes "gid" ∷ codes "atime" ∷ codes "mtime" ∷ [])
+own_keys kinds.Link = at_place (codes "path2" ∷ codes "dir2" ∷ [])
+own_keys kinds.Unlink = at_place []
+own_keys kinds.Rmdir = at_place []
+own_keys kinds.Rename = at_place (codes "path2" ∷ codes "dir2" ∷ [])
+own_keys kinds.Lookup = at_place []
+own_keys kinds.Stat = at_place []
+own_keys kinds.List = at_place []
+own_keys kinds.Readlink = at_place []
+own_keys kinds.Open = at_place (codes "fd" ∷ [])
+own_keys kinds.Openr = at_place (codes "fd" ∷ [])
+own_keys kinds.Fstat = codes "fd" ∷ []
 
 abbrev pub keys_of : OpKind → List (List ℕ)
-keys_of kind = codes "op" ∷ codes "time" ∷ codes "path" ∷ codes "dir" ∷ own_keys kind
+keys_of kind = codes "op" ∷ codes "time" ∷ own_keys kind
 
 -- a text of at most 65,535 bytes, which must be there
 abbrev pub short_text : List ℕ → Data → Result (List ℕ) Broken
@@ -71,6 +81,10 @@ first_place d = place_at (codes "dir") (codes "path") d
 
 abbrev pub second_place : Data → Result Place Broken
 second_place d = place_at (codes "dir2") (codes "path2") d
+
+-- a descriptor, which is 1 where none is given
+abbrev pub fd_of : Data → Result ℕ Broken
+fd_of d = number_or (codes "fd") DESCRIPTORS 1 d
 
 -- a chunk and a stripe are given both or neither
 abbrev pub both : Option ℕ → Option ℕ → Result (Option DefaultLayout) Broken
@@ -101,22 +115,46 @@ changes_of d = do
   Ok (record { mode = mode; owner = owner; group = group; atime = atime; mtime = mtime })
 
 -- 493 is rwxr-xr-x, 420 is rw-r--r--
-abbrev pub op_with : OpKind → ℕ → Place → Data → Result Op Broken
-op_with kinds.Mkdir stamp place d =
-    making_of 493 d >>= λ made. Ok (ops.Mkdir stamp place made.mode made.layout)
-op_with kinds.Create stamp place d =
-    making_of 420 d >>= λ made. Ok (ops.Create stamp place made.mode made.layout)
-op_with kinds.Symlink stamp place d =
-    short_text (codes "target") d >>= λ target. Ok (ops.Symlink stamp place target)
-op_with kinds.Setattr stamp place d = changes_of d >>= λ changes. Ok (ops.Setattr stamp place changes)
-op_with kinds.Link stamp place d = second_place d >>= λ to. Ok (ops.Link stamp place to)
-op_with kinds.Unlink stamp place d = Ok (ops.Unlink stamp place)
-op_with kinds.Rmdir stamp place d = Ok (ops.Rmdir stamp place)
-op_with kinds.Rename stamp place d = second_place d >>= λ to. Ok (ops.Rename stamp place to)
-op_with kinds.Lookup stamp place d = Ok (ops.Lookup stamp place)
-op_with kinds.Stat stamp place d = Ok (ops.Stat stamp place)
-op_with kinds.List stamp place d = Ok (ops.List stamp place)
-op_with kinds.Readlink stamp place d = Ok (ops.Readlink stamp place)
+abbrev pub op_with : OpKind → ℕ → Data → Result Op Broken
+op_with kinds.Mkdir stamp d = do
+  place ← first_place d
+  made ← making_of 493 d
+  Ok (ops.Mkdir stamp place made.mode made.layout)
+op_with kinds.Create stamp d = do
+  place ← first_place d
+  made ← making_of 420 d
+  Ok (ops.Create stamp place made.mode made.layout)
+op_with kinds.Symlink stamp d = do
+  place ← first_place d
+  target ← short_text (codes "target") d
+  Ok (ops.Symlink stamp place target)
+op_with kinds.Setattr stamp d = do
+  place ← first_place d
+  changes ← changes_of d
+  Ok (ops.Setattr stamp place changes)
+op_with kinds.Link stamp d = do
+  from ← first_place d
+  to ← second_place d
+  Ok (ops.Link stamp from to)
+op_with kinds.Unlink stamp d = first_place d >>= λ place. Ok (ops.Unlink stamp place)
+op_with kinds.Rmdir stamp d = first_place d >>= λ place. Ok (ops.Rmdir stamp place)
+op_with kinds.Rename stamp d = do
+  from ← first_place d
+  to ← second_place d
+  Ok (ops.Rename stamp from to)
+op_with kinds.Lookup stamp d = first_place d >>= λ place. Ok (ops.Lookup stamp place)
+op_with kinds.Stat stamp d = first_place d >>= λ place. Ok (ops.Stat stamp place)
+op_with kinds.List stamp d = first_place d >>= λ place. Ok (ops.List stamp place)
+op_with kinds.Readlink stamp d = first_place d >>= λ place. Ok (ops.Readlink stamp place)
+op_with kinds.Open stamp d = do
+  place ← first_place d
+  fd ← fd_of d
+  Ok (ops.Open stamp place fd)
+op_with kinds.Openr stamp d = do
+  place ← first_place d
+  fd ← fd_of d
+  Ok (ops.Openr stamp place fd)
+op_with kinds.Fstat stamp d = fd_of d >>= λ fd. Ok (ops.Fstat stamp fd)
 
 unfoldable pub op_of : Data → Result Op Broken
 op_of d = do
@@ -124,5 +162,4 @@ op_of d = do
   kind ← ok_or (kind_of_op name) not_built
   keys ← need (has_only (keys_of kind) d) not_built
   stamp ← number_or (codes "time") TIMES 0 d
-  place ← first_place d
-  op_with kind stamp place d
+  op_with kind stamp d

@@ -12,10 +12,11 @@ use Rattle.serde_json.specs.Data.{Data}
 use Rattle.serde_json.specs.Read.{read}
 use Rattle.uuid.specs.Text.{parsed}
 use Rattle.scenario.specs.Broken.{rule, not_built, need}
-use Rattle.scenario.specs.Json.{has_only, text_at, array_at}
+use Rattle.scenario.specs.Json.{array_at, elements_at, has_only, text_at}
 use Rattle.scenario.specs.Numbers.{count_or, number_or}
 use Rattle.scenario.specs.Ops.{op_of}
 use Rattle.scenario.specs.Schedule.{schedule_of}
+use Rattle.scenario.specs.Stops.{stops_at, stops_of}
 use Rattle.scenario.specs.declared.broken.Broken.{Broken}
 use Rattle.client_core.specs.Plans.{ops_in}
 use Rattle.client_core.specs.declared.plan.Op.{Op}
@@ -73,12 +74,17 @@ abbrev pub are_distinct : List Script → Bool
 are_distinct [] = true
 are_distinct (script ∷ scripts) = not (has_id script.id scripts) && are_distinct scripts
 
--- 1 to 64 clients, with at most 4,000 operations in all
-unfoldable pub clients_of : ℕ → Data → Result (List Script) Broken
-clients_of servers d = do
+-- an array of 1 to 64
+abbrev pub clients_at : Data → Result (List Data) Broken
+clients_at d = do
   list ← ok_or (array_at (codes "clients") d) not_built
   few ← need (nat_le 1 (length list) && nat_le (length list) CLIENTS) not_built
-  scripts ← scripts_of servers list
+  Ok list
+
+-- with at most 4,000 operations in all
+unfoldable pub clients_of : ℕ → List Data → Result (List Script) Broken
+clients_of servers ds = do
+  scripts ← scripts_of servers ds
   distinct ← need (are_distinct scripts) not_built
   short ← need (nat_le (ops_in scripts) OPERATIONS) not_built
   Ok scripts
@@ -99,16 +105,22 @@ abbrev pub top_keys : List (List ℕ)
 top_keys =
     codes "clients" ∷ codes "servers" ∷ codes "nodes" ∷ codes "chains" ∷ codes "chunk" ∷ codes "stripe"
     ∷ codes "attempts"
-    ∷ codes "schedule" ∷ []
+    ∷ codes "stops" ∷ codes "schedule" ∷ []
 
+-- The stops tell the finished program's rules: 4 where there is no array, 10 for all else, tried where it tries
+-- them. What is tried beside them tells rule 11 yet, in the order in which it will have rules of its own.
 unfoldable pub plan_of : Data → Result Plan Broken
 plan_of d = do
   keys ← need (has_only top_keys d) not_built
+  clients ← clients_at d
   config ← config_of d
   attempts ← count_or (codes "attempts") ATTEMPTS ATTEMPTS d
-  scripts ← clients_of config.servers d
-  schedule ← schedule_of (length scripts) d
-  Ok (record { config = config; attempts = attempts; clients = scripts; schedule = schedule })
+  planned ← stops_at d
+  turns ← elements_at (codes "schedule") not_built d
+  scripts ← clients_of config.servers clients
+  stops ← stops_of config.servers planned
+  schedule ← schedule_of (length scripts) turns
+  Ok (record { config = config; attempts = attempts; clients = scripts; stops = stops; schedule = schedule })
 
 unfoldable pub scenario_of : List ℕ → Result Plan Broken
 scenario_of bytes = do

@@ -1,13 +1,11 @@
 -- The order of turns that a scenario names.
-use Rattle.std.specs.Prelude.{ℕ, ◌-◌, List, [], nat_le, nat_lt, ◌&&◌, ◌||◌, Bool, Option, Some, None, Result, Ok, codes}
+use Rattle.std.specs.Prelude.{ℕ, ◌-◌, List, nat_le, nat_lt, ◌&&◌, ◌||◌, Bool, Result, Ok}
 use Rattle.std.specs.Option.{ok_or}
 use Rattle.fs_base.specs.Gives.{◌>>=◌, each_from}
 use Rattle.client_core.specs.declared.plan.Schedule.{Schedule}
 use Rattle.client_core.specs.declared.plan.Schedule.TheVariants.{Items}
 use Rattle.serde_json.specs.Data.{Data}
-use Rattle.serde_json.specs.Find.{get}
 use Rattle.scenario.specs.Broken.{not_built, need}
-use Rattle.scenario.specs.Json.{array_in}
 use Rattle.scenario.specs.Numbers.{whole_number}
 use Rattle.scenario.specs.declared.broken.Broken.{Broken}
 
@@ -24,13 +22,5 @@ item_of count d = do
 abbrev pub items_of : ℕ → List Data → Result (List ℕ) Broken
 items_of count ds = each_from (λ _ d. item_of count d) 0 ds
 
--- none where nothing stands
-abbrev pub schedule_in : ℕ → Option Data → Result Schedule Broken
-schedule_in count None = Ok (Items [])
-schedule_in count (Some d) = do
-  list ← ok_or (array_in d) not_built
-  items ← items_of count list
-  Ok (Items items)
-
-abbrev pub schedule_of : ℕ → Data → Result Schedule Broken
-schedule_of count d = schedule_in count (get (codes "schedule") d)
+abbrev pub schedule_of : ℕ → List Data → Result Schedule Broken
+schedule_of count ds = items_of count ds >>= λ items. Ok (Items items)

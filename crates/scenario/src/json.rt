@@ -6,7 +6,7 @@ ghost use Rattle.std.specs.Str.{bytes_eq};
 ghost use Rattle.fs_base.specs.Gives.{Gives};
 ghost use Rattle.serde_json.specs.View.{view, items_view};
 ghost use Rattle.serde_json.specs.Find.{get, as_array};
-ghost use Rattle.scenario.specs.Json.{array_at, array_in, has_only, text_at};
+ghost use Rattle.scenario.specs.Json.{array_at, array_in, elements_at, has_only, text_at};
 
 use crate::broken::Broken;
 use serde_json::Value;
@@ -76,4 +76,14 @@ fn elements_of(value: &Value) -> Option<&Vec<Value>>
     ensures { option_map (λ v. items_view v.now.items) result ≡ as_array (view value.now) }
 {
     value.as_array()
+}
+
+/// The elements of the array at a key that may be missing, or else the broken rule.
+pub fn elements_at<'a>(value: &'a Value, name: &str, broken: Broken) -> Result<&'a [Value], Broken>
+    ensures { Gives Some (λ s. map view s.now) result (elements_at name.now broken (view value.now)) }
+{
+    match value.get(name) {
+        Some(member) => array_in(member, broken),
+        None => Ok(&[]),
+    }
 }

@@ -8,6 +8,7 @@ mod numbers;
 mod ops;
 mod read;
 mod schedule;
+mod stops;
 
 pub use broken::{Broken, ScenarioError, too_long};
 pub use read::read_scenario;

@@ -3,7 +3,7 @@
 ghost use Rattle.std.specs.Prelude.{◌≡◌, ◌≤◌, ◌<◌, ◌^◌, IfOk};
 ghost use Rattle.serde_json.specs.View.{view};
 ghost use Rattle.serde_json.specs.Find.{get};
-ghost use Rattle.scenario.specs.Numbers.{count_or, number_at, number_or, whole_number};
+ghost use Rattle.scenario.specs.Numbers.{count_or, number_at, number_or, whole_number, whole_number_at};
 ghost use Rattle.client_core.specs.Plans.{IsGivenBelow};
 
 use crate::broken::{Broken, need, not_built};
@@ -14,6 +14,13 @@ pub fn whole_number(value: &Value) -> Option<u64>
     ensures { result ≡ whole_number (view value.now) }
 {
     value.as_u64()
+}
+
+/// The whole number at a key.
+pub fn whole_number_at(value: &Value, name: &str) -> Option<u64>
+    ensures { result ≡ whole_number_at name.now (view value.now) }
+{
+    value.get(name).and_then(whole_number)
 }
 
 /// The number below the limit at a key; `None` where the key is missing.

@@ -5,13 +5,13 @@ ghost use Rattle.fs_base.specs.Gives.{Gives};
 ghost use Rattle.serde_json.specs.View.{view};
 ghost use Rattle.scenario.specs.Broken.{broken_of, not_built};
 ghost use Rattle.scenario.specs.Numbers.{number_or};
-ghost use Rattle.scenario.specs.Ops.{both, changes_of, keys_of, kind_of_op, layout_of, making_of, op_of, op_with, place_at, second_place, short_text};
+ghost use Rattle.scenario.specs.Ops.{both, changes_of, fd_of, first_place, keys_of, kind_of_op, layout_of, making_of, op_of, op_with, place_at, second_place, short_text};
 ghost use Rattle.client_core.specs.Plans.{IsChanges, IsGivenLayout, IsOp, IsPlace};
 
 use crate::broken::{Broken, ScenarioError, need, not_built};
 use crate::json::{has_only, text_at};
 use crate::numbers::{number_16_at, number_32_at, number_at, number_or};
-use client_core::Op;
+use client_core::{DESCRIPTORS, Op};
 use fs_base::limits::{INODE_IDS, MODES, TEXT_BYTES, TIMES};
 use fs_base::{Changes, DefaultLayout, InodeId, Place, Text};
 use serde_json::Value;
@@ -32,6 +32,9 @@ pub enum OpKind {
     Stat,
     List,
     Readlink,
+    Open,
+    Openr,
+    Fstat,
 }
 
 /// What mkdir and create have beside a place.
@@ -51,8 +54,7 @@ pub fn op_of(alloc: Global, value: &Value) -> Result<Op, ScenarioError>
     let kind = kind_of(name)?;
     need(has_only(value, keys_of(kind)), not_built())?;
     let stamp = number_or(value, "time", TIMES, 0)?;
-    let place = place_at(alloc, value, "dir", "path")?;
-    op_with(alloc, kind, stamp, place, value)
+    op_with(alloc, kind, stamp, value)
 }
 
 fn kind_of(name: &str) -> Result<OpKind, Broken>
@@ -71,6 +73,9 @@ fn kind_of(name: &str) -> Result<OpKind, Broken>
         "stat" => Ok(OpKind::Stat),
         "list" => Ok(OpKind::List),
         "readlink" => Ok(OpKind::Readlink),
+        "open" => Ok(OpKind::Open),
+        "openr" => Ok(OpKind::Openr),
+        "fstat" => Ok(OpKind::Fstat),
         _ => Err(not_built()),
     }
 }
@@ -90,6 +95,8 @@ fn keys_of(kind: OpKind) -> &'static [&'static str]
         OpKind::Lookup | OpKind::Stat | OpKind::List | OpKind::Readlink => &[
             "op", "time", "path", "dir",
         ],
+        OpKind::Open | OpKind::Openr => &["op", "time", "path", "dir", "fd"],
+        OpKind::Fstat => &["op", "time", "fd"],
     }
 }
 
@@ -116,12 +123,29 @@ fn place_at(alloc: Global, value: &Value, dir: &str, path: &str) -> Result<Place
     })
 }
 
+/// The place of an operation, or where one of two places begins.
+fn first_place(alloc: Global, value: &Value) -> Result<Place, ScenarioError>
+    ensures gives { Gives broken_of (λ place. place) result (first_place (view value.now)) }
+    ensures valid { IfOk result (λ place. IsPlace place) }
+{
+    place_at(alloc, value, "dir", "path")
+}
+
 /// Where an operation of two places leads.
 fn second_place(alloc: Global, value: &Value) -> Result<Place, ScenarioError>
     ensures gives { Gives broken_of (λ place. place) result (second_place (view value.now)) }
     ensures valid { IfOk result (λ place. IsPlace place) }
 {
     place_at(alloc, value, "dir2", "path2")
+}
+
+/// The descriptor that an operation is on.
+fn fd_of(value: &Value) -> Result<u8, Broken>
+    ensures gives { result ≡ fd_of (view value.now) }
+    ensures below { IfOk result (λ fd. fd < DESCRIPTORS) }
+{
+    let fd = number_or(value, "fd", DESCRIPTORS as u64, 1)?;
+    Ok(fd as u8)
 }
 
 fn both(chunk: Option<u32>, stripe: Option<u16>) -> Result<Option<DefaultLayout>, Broken>
@@ -183,41 +207,55 @@ fn changes_of(value: &Value) -> Result<Changes, Broken>
     })
 }
 
-/// The operation of a kind at a place, with what it has of its own.
-fn op_with(
-    alloc: Global,
-    kind: OpKind,
-    stamp: u64,
-    place: Place,
-    value: &Value,
-) -> Result<Op, ScenarioError>
-    requires stamp { stamp < TIMES }
-    requires place { IsPlace place }
-    ensures gives { Gives broken_of (λ op. op) result (op_with kind stamp place (view value.now)) }
+/// The operation of a kind, with what it has of its own.
+fn op_with(alloc: Global, kind: OpKind, stamp: u64, value: &Value) -> Result<Op, ScenarioError>
+    requires { stamp < TIMES }
+    ensures gives { Gives broken_of (λ op. op) result (op_with kind stamp (view value.now)) }
     ensures valid { IfOk result (λ op. IsOp op) }
 {
     match kind {
-        OpKind::Mkdir => mkdir_with(stamp, place, value),
-        OpKind::Create => create_with(stamp, place, value),
-        OpKind::Symlink => symlink_with(alloc, stamp, place, value),
-        OpKind::Setattr => setattr_with(stamp, place, value),
-        OpKind::Link => link_with(alloc, stamp, place, value),
-        OpKind::Unlink => Ok(Op::Unlink { stamp, place }),
-        OpKind::Rmdir => Ok(Op::Rmdir { stamp, place }),
-        OpKind::Rename => rename_with(alloc, stamp, place, value),
-        OpKind::Lookup => Ok(Op::Lookup { stamp, place }),
-        OpKind::Stat => Ok(Op::Stat { stamp, place }),
-        OpKind::List => Ok(Op::List { stamp, place }),
-        OpKind::Readlink => Ok(Op::Readlink { stamp, place }),
+        OpKind::Mkdir => mkdir_with(alloc, stamp, value),
+        OpKind::Create => create_with(alloc, stamp, value),
+        OpKind::Symlink => symlink_with(alloc, stamp, value),
+        OpKind::Setattr => setattr_with(alloc, stamp, value),
+        OpKind::Link => link_with(alloc, stamp, value),
+        OpKind::Rename => rename_with(alloc, stamp, value),
+        OpKind::Open => open_with(alloc, stamp, value),
+        OpKind::Openr => openr_with(alloc, stamp, value),
+        OpKind::Fstat => fstat_with(stamp, value),
+        OpKind::Unlink => {
+            let place = first_place(alloc, value)?;
+            Ok(Op::Unlink { stamp, place })
+        }
+        OpKind::Rmdir => {
+            let place = first_place(alloc, value)?;
+            Ok(Op::Rmdir { stamp, place })
+        }
+        OpKind::Lookup => {
+            let place = first_place(alloc, value)?;
+            Ok(Op::Lookup { stamp, place })
+        }
+        OpKind::Stat => {
+            let place = first_place(alloc, value)?;
+            Ok(Op::Stat { stamp, place })
+        }
+        OpKind::List => {
+            let place = first_place(alloc, value)?;
+            Ok(Op::List { stamp, place })
+        }
+        OpKind::Readlink => {
+            let place = first_place(alloc, value)?;
+            Ok(Op::Readlink { stamp, place })
+        }
     }
 }
 
-fn mkdir_with(stamp: u64, place: Place, value: &Value) -> Result<Op, ScenarioError>
-    requires stamp { stamp < TIMES }
-    requires place { IsPlace place }
-    ensures gives { Gives broken_of (λ op. op) result (op_with OpKind.Mkdir stamp place (view value.now)) }
+fn mkdir_with(alloc: Global, stamp: u64, value: &Value) -> Result<Op, ScenarioError>
+    requires { stamp < TIMES }
+    ensures gives { Gives broken_of (λ op. op) result (op_with OpKind.Mkdir stamp (view value.now)) }
     ensures valid { IfOk result (λ op. IsOp op) }
 {
+    let place = first_place(alloc, value)?;
     let made = making_of(value, 0o755)?;
     Ok(Op::Mkdir {
         stamp,
@@ -227,12 +265,12 @@ fn mkdir_with(stamp: u64, place: Place, value: &Value) -> Result<Op, ScenarioErr
     })
 }
 
-fn create_with(stamp: u64, place: Place, value: &Value) -> Result<Op, ScenarioError>
-    requires stamp { stamp < TIMES }
-    requires place { IsPlace place }
-    ensures gives { Gives broken_of (λ op. op) result (op_with OpKind.Create stamp place (view value.now)) }
+fn create_with(alloc: Global, stamp: u64, value: &Value) -> Result<Op, ScenarioError>
+    requires { stamp < TIMES }
+    ensures gives { Gives broken_of (λ op. op) result (op_with OpKind.Create stamp (view value.now)) }
     ensures valid { IfOk result (λ op. IsOp op) }
 {
+    let place = first_place(alloc, value)?;
     let made = making_of(value, 0o644)?;
     Ok(Op::Create {
         stamp,
@@ -242,12 +280,12 @@ fn create_with(stamp: u64, place: Place, value: &Value) -> Result<Op, ScenarioEr
     })
 }
 
-fn symlink_with(alloc: Global, stamp: u64, place: Place, value: &Value) -> Result<Op, ScenarioError>
-    requires stamp { stamp < TIMES }
-    requires place { IsPlace place }
-    ensures gives { Gives broken_of (λ op. op) result (op_with OpKind.Symlink stamp place (view value.now)) }
+fn symlink_with(alloc: Global, stamp: u64, value: &Value) -> Result<Op, ScenarioError>
+    requires { stamp < TIMES }
+    ensures gives { Gives broken_of (λ op. op) result (op_with OpKind.Symlink stamp (view value.now)) }
     ensures valid { IfOk result (λ op. IsOp op) }
 {
+    let place = first_place(alloc, value)?;
     let target = short_text(alloc, value, "target")?;
     Ok(Op::Symlink {
         stamp,
@@ -256,12 +294,12 @@ fn symlink_with(alloc: Global, stamp: u64, place: Place, value: &Value) -> Resul
     })
 }
 
-fn setattr_with(stamp: u64, place: Place, value: &Value) -> Result<Op, ScenarioError>
-    requires stamp { stamp < TIMES }
-    requires place { IsPlace place }
-    ensures gives { Gives broken_of (λ op. op) result (op_with OpKind.Setattr stamp place (view value.now)) }
+fn setattr_with(alloc: Global, stamp: u64, value: &Value) -> Result<Op, ScenarioError>
+    requires { stamp < TIMES }
+    ensures gives { Gives broken_of (λ op. op) result (op_with OpKind.Setattr stamp (view value.now)) }
     ensures valid { IfOk result (λ op. IsOp op) }
 {
+    let place = first_place(alloc, value)?;
     let changes = changes_of(value)?;
     Ok(Op::Setattr {
         stamp,
@@ -270,22 +308,51 @@ fn setattr_with(stamp: u64, place: Place, value: &Value) -> Result<Op, ScenarioE
     })
 }
 
-fn link_with(alloc: Global, stamp: u64, from: Place, value: &Value) -> Result<Op, ScenarioError>
-    requires stamp { stamp < TIMES }
-    requires place { IsPlace from }
-    ensures gives { Gives broken_of (λ op. op) result (op_with OpKind.Link stamp from (view value.now)) }
+fn link_with(alloc: Global, stamp: u64, value: &Value) -> Result<Op, ScenarioError>
+    requires { stamp < TIMES }
+    ensures gives { Gives broken_of (λ op. op) result (op_with OpKind.Link stamp (view value.now)) }
     ensures valid { IfOk result (λ op. IsOp op) }
 {
+    let from = first_place(alloc, value)?;
     let to = second_place(alloc, value)?;
     Ok(Op::Link { stamp, from, to })
 }
 
-fn rename_with(alloc: Global, stamp: u64, from: Place, value: &Value) -> Result<Op, ScenarioError>
-    requires stamp { stamp < TIMES }
-    requires place { IsPlace from }
-    ensures gives { Gives broken_of (λ op. op) result (op_with OpKind.Rename stamp from (view value.now)) }
+fn rename_with(alloc: Global, stamp: u64, value: &Value) -> Result<Op, ScenarioError>
+    requires { stamp < TIMES }
+    ensures gives { Gives broken_of (λ op. op) result (op_with OpKind.Rename stamp (view value.now)) }
     ensures valid { IfOk result (λ op. IsOp op) }
 {
+    let from = first_place(alloc, value)?;
     let to = second_place(alloc, value)?;
     Ok(Op::Rename { stamp, from, to })
+}
+
+fn open_with(alloc: Global, stamp: u64, value: &Value) -> Result<Op, ScenarioError>
+    requires { stamp < TIMES }
+    ensures gives { Gives broken_of (λ op. op) result (op_with OpKind.Open stamp (view value.now)) }
+    ensures valid { IfOk result (λ op. IsOp op) }
+{
+    let place = first_place(alloc, value)?;
+    let fd = fd_of(value)?;
+    Ok(Op::Open { stamp, place, fd })
+}
+
+fn openr_with(alloc: Global, stamp: u64, value: &Value) -> Result<Op, ScenarioError>
+    requires { stamp < TIMES }
+    ensures gives { Gives broken_of (λ op. op) result (op_with OpKind.Openr stamp (view value.now)) }
+    ensures valid { IfOk result (λ op. IsOp op) }
+{
+    let place = first_place(alloc, value)?;
+    let fd = fd_of(value)?;
+    Ok(Op::Openr { stamp, place, fd })
+}
+
+fn fstat_with(stamp: u64, value: &Value) -> Result<Op, ScenarioError>
+    requires { stamp < TIMES }
+    ensures gives { Gives broken_of (λ op. op) result (op_with OpKind.Fstat stamp (view value.now)) }
+    ensures valid { IfOk result (λ op. IsOp op) }
+{
+    let fd = fd_of(value)?;
+    Ok(Op::Fstat { stamp, fd })
 }

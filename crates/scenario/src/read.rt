@@ -7,14 +7,15 @@ ghost use Rattle.scenario.specs.Broken.{broken_of, not_built, rule};
 ghost use Rattle.scenario.specs.declared.broken.ScenarioError.TheVariants.{BadScenario};
 ghost use Rattle.fs_base.specs.Config.{IsConfig};
 ghost use Rattle.client_core.specs.Plans.{ops_in, AreDistinct, HasId, IsOp, IsPlan, IsScript};
-ghost use Rattle.scenario.specs.Scenario.{clients_of, config_of, home_of, id_in, json_of, ops_at, ops_of, plan_of, scenario_of, script_of, scripts_of, short_enough, client_of};
+ghost use Rattle.scenario.specs.Scenario.{clients_at, clients_of, config_of, home_of, id_in, json_of, ops_at, ops_of, plan_of, scenario_of, script_of, scripts_of, short_enough, client_of};
 
 use crate::broken::{Broken, ScenarioError, need, not_built, too_long};
 use crate::clients::{are_distinct, ops_in};
-use crate::json::{array_at, has_only, text_at};
+use crate::json::{array_at, elements_at, has_only, text_at};
 use crate::numbers::{count_or, number_or};
 use crate::ops::op_of;
 use crate::schedule::schedule_of;
+use crate::stops::{stops_at, stops_of};
 use client_core::{Op, Plan, Script};
 use fs_base::limits::{
     ATTEMPTS, CHAINS, CHUNK_BYTES, CLIENTS, NODES, OPERATIONS, SCENARIO_BYTES, SERVERS,
@@ -69,19 +70,25 @@ fn plan_of(alloc: Global, value: &Value) -> Result<Plan, ScenarioError>
         has_only(
             value,
             &[
-                "clients", "servers", "nodes", "chains", "chunk", "stripe", "attempts", "schedule",
+                "clients", "servers", "nodes", "chains", "chunk", "stripe", "attempts", "stops",
+                "schedule",
             ],
         ),
         not_built(),
     )?;
+    let values = clients_at(value)?;
     let config = config_of(value)?;
     let attempts = count_or(value, "attempts", ATTEMPTS as u64, ATTEMPTS as u64)?;
-    let clients = clients_of(alloc, config.servers(), value)?;
-    let schedule = schedule_of(alloc, clients.len(), value)?;
+    let planned = stops_at(value)?;
+    let turns = elements_at(value, "schedule", not_built())?;
+    let clients = clients_of(alloc, config.servers(), values)?;
+    let stops = stops_of(alloc, config.servers(), planned)?;
+    let schedule = schedule_of(alloc, clients.len(), turns)?;
     Ok(Plan {
         config,
         attempts: attempts as u8,
         clients,
+        stops,
         schedule,
     })
 }
@@ -122,21 +129,30 @@ fn config_with(servers: u64, nodes: u64, chains: u64, chunk: u64, stripe: u64) -
     }
 }
 
-/// 1 to 64 clients, each with an id of its own.
+/// The values that clients are read of, 1 to 64.
+fn clients_at(value: &Value) -> Result<&[Value], Broken>
+    ensures gives { Gives Some (λ s. map view s.now) result (clients_at (view value.now)) }
+    ensures some { IfOk result (λ s. 1 ≤ length s.now) }
+    ensures few { IfOk result (λ s. length s.now ≤ CLIENTS) }
+{
+    let list = array_at(value, "clients", not_built())?;
+    need(1 <= list.len() && list.len() <= CLIENTS, not_built())?;
+    Ok(list)
+}
+
+/// Clients, each with an id of its own.
 #[tactic(auto, unfolding(crate::specs::Scenario::clients_of))]
-fn clients_of(alloc: Global, servers: u8, value: &Value) -> Result<Items<Script>, ScenarioError>
-    requires { 1 ≤ servers }
-    ensures gives { Gives broken_of (λ clients. clients) result (clients_of servers (view value.now)) }
-    ensures some { IfOk result (λ clients. 1 ≤ length clients) }
-    ensures few { IfOk result (λ clients. length clients ≤ CLIENTS) }
+fn clients_of(alloc: Global, servers: u8, values: &[Value]) -> Result<Items<Script>, ScenarioError>
+    requires servers { 1 ≤ servers }
+    requires few { length values.now ≤ CLIENTS }
+    ensures gives { Gives broken_of (λ clients. clients) result (clients_of servers (map view values.now)) }
+    ensures count { IfOk result (λ clients. length clients ≡ length values.now) }
     ensures scripts { IfOk result (λ clients. All (IsScript servers) clients) }
     ensures ids { IfOk result (λ clients. All HasId clients) }
     ensures distinct { IfOk result (λ clients. AreDistinct clients) }
     ensures short { IfOk result (λ clients. ops_in clients ≤ OPERATIONS) }
 {
-    let list = array_at(value, "clients", not_built())?;
-    need(1 <= list.len() && list.len() <= CLIENTS, not_built())?;
-    let clients = scripts_of(alloc, servers, list)?;
+    let clients = scripts_of(alloc, servers, values)?;
     need(are_distinct(clients.as_slice()), not_built())?;
     need(ops_in(clients.as_slice()) <= OPERATIONS, not_built())?;
     Ok(clients)

@@ -8,7 +8,6 @@ ghost use Rattle.scenario.specs.Broken.{broken_of};
 ghost use Rattle.scenario.specs.Schedule.{item_of, items_of, names_client, schedule_of};
 
 use crate::broken::{ScenarioError, need, not_built};
-use crate::json::array_in;
 use crate::numbers::whole_number;
 use client_core::Schedule;
 use fs_base::Items;
@@ -16,17 +15,13 @@ use fs_base::limits::CLIENTS;
 use serde_json::Value;
 use std::alloc::Global;
 
-/// The order of turns of so many clients; none where the key is missing.
-pub fn schedule_of(alloc: Global, count: usize, value: &Value) -> Result<Schedule, ScenarioError>
+/// The order of turns of so many clients.
+pub fn schedule_of(alloc: Global, count: usize, values: &[Value]) -> Result<Schedule, ScenarioError>
     requires { count ≤ CLIENTS }
-    ensures gives { Gives broken_of (λ schedule. schedule) result (schedule_of count (view value.now)) }
+    ensures gives { Gives broken_of (λ schedule. schedule) result (schedule_of count (map view values.now)) }
     ensures valid { IfOk result (λ schedule. IsSchedule count schedule) }
 {
-    let Some(member) = value.get("schedule") else {
-        return Ok(Schedule::Items(Items::new(alloc)));
-    };
-    let list = array_in(member, not_built())?;
-    let items = items_of(alloc, count, list)?;
+    let items = items_of(alloc, count, values)?;
     Ok(Schedule::Items(items))
 }
 

@@ -4,11 +4,13 @@ use Rattle.std.specs.Prelude.{slice_get}
 use Rattle.std.specs.List.{list_any}
 use Rattle.std.proofs.lemmas.Bool.{cases_Bool, cases_eq}
 use Rattle.std.proofs.lemmas.List.Folds.{list_any_at}
+use Rattle.std.proofs.lemmas.List.{length-map}
 use Rattle.std.proofs.lemmas.Option.{get_or_from_slice_get, slice_get_within, same_Some}
 use Rattle.fs_base.specs.Config.{Settings}
 use Rattle.txn_task.specs.declared.messages.Entry.{Entry}
 use Rattle.client_core.specs.Client.{ClientView, has_ended}
 use Rattle.client_core.specs.declared.plan.Script.{Script}
+use Rattle.client_core.specs.declared.plan.Stop.{Stop}
 use Rattle.seat_turns.specs.Kept.{IsSeat}
 use Rattle.seat_turns.specs.Left.{AreSeatsAhead, EndsOne, SeatsGoOn, IsSeatAhead, KeepsOthers, Stays}
 use Rattle.seat_turns.specs.Left.{has_left}
@@ -23,13 +25,16 @@ use Rattle.seat_turns.proofs.Working.{all_done}
 
 pub stays : (seats : List Seat) (k : ℕ) → Stays seats seats k
 stays seats k = record {
-  others = λ j apart. refl;
+  others = λ j apart before after at_before at_after. ap (λ (s : Seat). s.client.op) (same_Some after before (sym at_after ∙ at_before));
   own = λ before after at_before at_after. ap (λ (s : Seat). s.client.op) (same_Some after before (sym at_after ∙ at_before));
 }
 
-module _ (old mid new : List Seat) (k : ℕ) (within : k < length mid) (so_far : Stays old mid k) (turn : SeatsGoOn mid new k) where
+module _ (old mid new : List Seat) (k : ℕ) (within : k < length mid) (many : length mid ≡ length old) (so_far : Stays old mid k) (turn : SeatsGoOn mid new k) where
   others : KeepsOthers old new k
-  others j apart = turn.others j apart ∙ so_far.others j apart
+  others j apart before after at_before at_after =
+      let there : j < length old = slice_get_within old j before at_before in
+      let between : (seat : Seat) × (slice_get mid j ≡ Some seat) = at_there mid j (omega arith) in
+      turn.others j apart between.0 after between.1 at_after ∙ so_far.others j apart before between.0 at_before between.1
 
   pub stays_on : ((before after : Seat) → slice_get old k ≡ Some before → slice_get new k ≡ Some after → after.client.op ≡ before.client.op) → Stays old new k
   stays_on same = record { others = others; own = same }
@@ -84,6 +89,12 @@ one_ahead rounds before after script more (inr all) =
     let same : length after.client.script.ops ≡ length before.client.script.ops = ap (λ (s : Script). length s.ops) script in
     inr (omega arith)
 
+as_far : (rounds : ℕ) (before after : Seat) → after.client.script ≡ before.client.script → after.client.op ≡ before.client.op → IsSeatAhead rounds before → IsSeatAhead rounds after
+as_far rounds before after script op (inl some) = inl (omega arith)
+as_far rounds before after script op (inr all) =
+    let same : length after.client.script.ops ≡ length before.client.script.ops = ap (λ (s : Script). length s.ops) script in
+    inr (omega arith)
+
 -- an operation of the next client has ended
 pub ahead_went : (rounds c : ℕ) (old new : List Seat) → c < length old → scripts_of_seats new ≡ scripts_of_seats old → EndsOne old new c → AreAheadTo rounds c old → AreAheadTo rounds (c + 1) new
 ahead_went rounds c old new l scripts one h k seat at = elim (cases_eq k c) [ inl same ↦ here same | inr apart ↦ other apart ]
@@ -101,10 +112,18 @@ ahead_went rounds c old new l scripts one h k seat at = elim (cases_eq k c) [ in
         less rounds seat (inl some) = inl (omega arith)
         less rounds seat (inr all) = inr all
 
+    many : length new ≡ length old
+    many = sym (length-map new (λ (s : Seat). s.client.script)) ∙ (ap (λ (ss : List Script). length ss) scripts ∙ length-map old (λ (s : Seat). s.client.script))
+
+    -- its operations are as many as before
     other : k ≢ c → IsSeatAhead rounds seat × (k < c + 1 → IsSeatAhead (rounds + 1) seat)
     other apart =
-        let was : IsSeatAhead rounds seat × (k < c → IsSeatAhead (rounds + 1) seat) = h k seat (sym (one.others k apart) ∙ at) in
-        (was.0, λ below. was.1 (omega arith))
+        let there : k < length new = slice_get_within new k seat at in
+        let before : (b : Seat) × (slice_get old k ≡ Some b) = at_there old k (omega (arith, many)) in
+        let op : seat.client.op ≡ before.0.client.op = one.others k apart before.0 seat before.1 at in
+        let script : seat.client.script ≡ before.0.client.script = same_Some seat.client.script before.0.client.script (sym (script_at new k seat at) ∙ (ap (λ (ss : List Script). slice_get ss k) scripts ∙ script_at old k before.0 before.1)) in
+        let was : IsSeatAhead rounds before.0 × (k < c → IsSeatAhead (rounds + 1) before.0) = h k before.0 before.1 in
+        (as_far rounds before.0 seat script op was.0, λ below. as_far (rounds + 1) before.0 seat script op (was.1 (omega arith)))
 
 -- ---- no more is left
 
@@ -125,11 +144,11 @@ have_ended seats none k seat at = elim (cases_Bool (has_ended seat.client)) [
 ]
 
 -- a script has at most 4,000 operations, so that as many rounds are enough
-pub none_left : (C : Settings) (attempts : ℕ) (journal : List Entry) (seats : List Seat) → AllSeats C attempts journal seats → AreSeatsAhead 4000 seats → has_left seats ≡ false
-none_left C attempts journal seats are ahead = any_none (λ s. not (has_ended s.client)) seats (λ k seat at. ap not (ended seat k (are k seat at) (ahead k seat at)))
+pub none_left : (C : Settings) (attempts : ℕ) (stops : List Stop) (journal : List Entry) (seats : List Seat) → AllSeats C attempts stops journal seats → AreSeatsAhead 4000 seats → has_left seats ≡ false
+none_left C attempts stops journal seats are ahead = any_none (λ s. not (has_ended s.client)) seats (λ k seat at. ap not (ended seat k (are k seat at) (ahead k seat at)))
   where
-    ended : (seat : Seat) (k : ℕ) → IsSeat C attempts journal k seat → IsSeatAhead 4000 seat → has_ended seat.client ≡ true
+    ended : (seat : Seat) (k : ℕ) → IsSeat C attempts stops journal k seat → IsSeatAhead 4000 seat → has_ended seat.client ≡ true
     ended seat k is far =
         let all : length seat.client.script.ops ≤ seat.client.op = omega (arith, is.script.short) in
-        let rest : seat.client.request ≡ None = all_done C attempts journal k seat is all in
+        let rest : seat.client.request ≡ None = all_done C attempts stops journal k seat is all in
         has_ended_by seat.client rest all

@@ -1,5 +1,13 @@
 pub mod Ahead
+pub mod Coming
+pub mod Counted
 pub mod EventLaws
+pub mod Going
+pub mod Longer
+pub mod Losing
 pub mod Receiving
 pub mod Seating
+pub mod Sending
+pub mod Taking
+pub mod Turning
 pub mod Working

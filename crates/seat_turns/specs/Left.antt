@@ -8,15 +8,17 @@ use Rattle.seat_turns.specs.declared.seats.Seat.{Seat}
 abbrev pub has_left : List Seat → Bool
 has_left seats = list_any (λ seat. not (has_ended seat.client)) seats
 
--- each other client is as it was
+-- no operation of any other client has ended
 abbrev pub KeepsOthers : List Seat → List Seat → ℕ → Type 0
-KeepsOthers old new client = (j : ℕ) → j ≢ client → slice_get new j ≡ slice_get old j
+KeepsOthers old new client =
+    (j : ℕ) → j ≢ client → (before after : Seat) → slice_get old j ≡ Some before → slice_get new j ≡ Some after
+    → after.client.op ≡ before.client.op
 
 -- as many as before, or one more
 abbrev pub IsOneMore : ℕ → ℕ → Type 0
 IsOneMore before after = (after ≡ before) ⊎ (after ≡ before + 1)
 
--- a turn of a client: at most one more of its operations has ended, and each other client is as it was
+-- a turn of a client: at most one more of its operations has ended, and none of another's
 pub record SeatsGoOn (old new : List Seat) (client : ℕ) : Type 0 where
   pub others : KeepsOthers old new client
   pub own : (before after : Seat) → slice_get old client ≡ Some before → slice_get new client ≡ Some after
@@ -28,7 +30,7 @@ pub record Stays (old new : List Seat) (client : ℕ) : Type 0 where
   pub own : (before after : Seat) → slice_get old client ≡ Some before → slice_get new client ≡ Some after
       → after.client.op ≡ before.client.op
 
--- a whole operation of a client: one more has ended, and each other client is as it was
+-- a whole operation of a client: one more has ended, and none of another's
 pub record EndsOne (old new : List Seat) (client : ℕ) : Type 0 where
   pub others : KeepsOthers old new client
   pub own : (before after : Seat) → slice_get old client ≡ Some before → slice_get new client ≡ Some after

@@ -3,3 +3,4 @@ pub mod Kept
 pub mod Left
 pub mod Ready
 pub mod Seats
+pub mod Servers

@@ -9,7 +9,7 @@ use run_record::Listed;
 use std::alloc::Global;
 use txn_task::Ask;
 
-/// A request under way.
+/// A request that a server works on.
 #[derive(Drop)]
 pub struct Work {
     pub task: MetaTask,
@@ -25,7 +25,11 @@ pub struct Work {
 #[derive(Drop)]
 pub struct Seat {
     pub client: ClientState,
+    /// The request under way, where a server works on it.
     pub work: Option<Work>,
+    /// The front of the call under way, where its server stopped: the request is sent again at the client's
+    /// next turn, and until then it is at no server.
+    pub again: Option<u64>,
     pub receipts: Items<Listed>,
 }
 
@@ -38,6 +42,7 @@ fn new_seat(alloc: Global, config: Config, script: Script) -> Result<Seat, Memor
     Ok(Seat {
         client,
         work: None,
+        again: None,
         receipts: Items::new(alloc),
     })
 }

@@ -1,252 +1,32 @@
-//! The clients' part of a turn.
+//! One turn of a client, over all clients and servers.
 
-ghost use Rattle.std.specs.Prelude.{◌≡◌, ◌≤◌, ◌<◌, ◌∷◌, ◌^◌, [], Some, None, true, false, length, slice_get, IfOk, OnOk};
-ghost use Rattle.client_core.specs.Client.{end_call, send, IsSending};
-ghost use Rattle.client_core.specs.declared.messages.ClientAsk.TheVariants as client_asks;
-ghost use Rattle.fs_base.specs.declared.call.Request.{Request as RequestView};
-ghost use Rattle.meta_task.specs.Task.{new_task};
-ghost use Rattle.meta_task.specs.declared.waiting.Waiting.TheVariants as waits;
-ghost use Rattle.path_walk.specs.Requests.{IsRequest};
-ghost use Rattle.run_record.specs.Receipts.{fronts_of};
-ghost use Rattle.txn_task.specs.declared.messages.Ask.TheVariants as asks;
-ghost use Rattle.txn_task.specs.declared.outcome.Outcome.{Outcome};
-ghost use Rattle.txn_task.specs.declared.outcome.Receipt.{Receipt};
-ghost use Rattle.client_core.specs.Plans.{AreDistinct};
-ghost use Rattle.request_run.specs.Served.{AreCovered, AreEarlier, IsAskPending, IsTaskReady, IsTaskServed};
-ghost use Rattle.seat_turns.specs.Kept.{IsSeat};
-ghost use Rattle.seat_turns.specs.Seats.{AreSeated, scripts_of_seats};
+ghost use Rattle.std.specs.Prelude.{◌≡◌, ◌≤◌, ◌<◌, ℕ, Some, false, length, slice_get, IfOk, OnOk};
 ghost use Rattle.client_core.specs.Client.{has_ended};
-ghost use Rattle.seat_turns.specs.Events.{Comes, HasExchanged, HasLearned, IsAtWork, IsEvent};
-ghost use Rattle.seat_turns.specs.Left.{SeatsGoOn};
-ghost use Rattle.seat_turns.specs.declared.seats.Work.{Work as WorkView};
-ghost use Rattle.seat_turns.specs.declared.seats.Seat.{Seat as SeatView};
-ghost use Rattle.request_run.specs.Entries.{IsGrowth, entries_of};
+ghost use Rattle.client_core.specs.Plans.{AreDistinct};
 ghost use Rattle.request_run.specs.Answered.{IsExchange};
-ghost use Rattle.seat_turns.specs.Ready.{is_done};
+ghost use Rattle.request_run.specs.Entries.{IsGrowth, IsGrowthOf, entries_of};
+ghost use Rattle.request_run.specs.Served.{AreCovered, IsAskPending, IsTaskReady, IsTaskServed};
 ghost use Rattle.request_run.specs.Sound.{IsStoreOpening};
+ghost use Rattle.run_record.specs.Stops.{IsPlannedStop};
+ghost use Rattle.seat_turns.specs.Events.{HasExchanged, IsEvent, IsTurnOf};
+ghost use Rattle.seat_turns.specs.Kept.{IsSeat};
+ghost use Rattle.seat_turns.specs.Left.{SeatsGoOn};
+ghost use Rattle.seat_turns.specs.Seats.{AreSeated, scripts_of_seats};
+ghost use Rattle.seat_turns.specs.Servers.{AreCounted, HasCounted, has_made};
+ghost use Rattle.seat_turns.specs.declared.seats.Seat.{Seat as SeatView};
+ghost use Rattle.seat_turns.specs.declared.seats.Work.{Work as WorkView};
 
+use crate::ending::settle;
 use crate::seats::{Seat, Work};
-use client_core::{ClientAnswer, ClientAsk, ClientState};
-use fs_base::limits::{ATTEMPTS, JOURNAL_ENTRIES};
-use fs_base::{Config, Items, Memory, Request};
+use crate::servers::Servers;
+use crate::starting::start;
+use crate::stopping::{lose_all, take_work};
+use fs_base::limits::{ATTEMPTS, JOURNAL_ENTRIES, STOPS};
+use fs_base::{Config, Memory};
 use kv_store::KvState;
-use meta_task::{MetaEntry, MetaTask};
-use request_run::{Serving, begin, serve};
-use run_record::{Listed, text_of};
+use meta_task::MetaEntry;
+use request_run::{Serving, serve, sound_store};
 use std::alloc::Global;
-use txn_task::{Ask, Outcome, Receipt};
-
-fn let_go(_task: MetaTask) {}
-
-fn set_work(seat: &mut Seat, work: Work)
-    ensures { seat.new ≡ record seat.old { work = Some work } }
-{
-    seat.work = Some(work);
-}
-
-fn take_work(seat: &mut Seat) -> Option<Work>
-    ensures work { result ≡ seat.old.work }
-    ensures seat { seat.new ≡ record seat.old { work = None } }
-{
-    seat.work.take()
-}
-
-// ---- a call begins
-
-/// The client's next step, where nothing is under way.
-fn next_step(seat: &mut Seat) -> Result<ClientAsk, Memory>
-    requires { seat.old.client.request ≡ None }
-    ensures seat { OnOk result
-        (seat.new ≡ record seat.old
-        { client = (send seat.old.client (slice_get seat.old.client.script.ops seat.old.client.op)).0 }) }
-    ensures ask { IfOk result
-        (λ ask. ask ≡ (send seat.old.client (slice_get seat.old.client.script.ops seat.old.client.op)).1) }
-    ensures valid { IfOk result (λ ask. IsSending seat.old.client.config ask) }
-    ensures script { seat.new.client.script ≡ seat.old.client.script }
-{
-    let answer = if seat.receipts.is_empty() {
-        ClientAnswer::Start
-    } else {
-        ClientAnswer::Next
-    };
-    let ask = seat.client.next(answer)?;
-    Ok(ask)
-}
-
-/// The request's work, which waits for the answer to its first ask.
-fn new_work(
-    alloc: Global,
-    store: &KvState<MetaEntry>,
-    config: Config,
-    attempts: u8,
-    server: u8,
-    request: Request,
-) -> Result<Work, Memory>
-    requires valid { IsRequest config request }
-    requires small { request.client.0 < 2 ^ 128 }
-    requires from { 1 ≤ attempts }
-    requires to { attempts ≤ ATTEMPTS }
-    requires earlier { AreEarlier (entries_of store.now.journal) request }
-    ensures task { IfOk result
-        (λ work. work.task ≡ record (new_task config attempts request) { waiting = waits.Beginning }) }
-    ensures ask { IfOk result (λ work. work.ask ≡ asks.Begin) }
-    ensures server { IfOk result (λ work. work.server ≡ server) }
-    ensures front { IfOk result (λ work. work.front ≡ length (entries_of store.now.journal)) }
-    ensures served { IfOk result
-        (λ work. IsTaskReady config attempts (entries_of store.now.journal) request work.front work.task work.ask) }
-{
-    let Serving { task, ask, front } = begin(alloc, store, config, attempts, request)?;
-    Ok(Work {
-        task,
-        ask,
-        server,
-        front,
-    })
-}
-
-/// Sends the client's next request, where none is under way.
-fn start(
-    alloc: Global,
-    store: &KvState<MetaEntry>,
-    config: Config,
-    attempts: u8,
-    k: u16,
-    seat: &mut Seat,
-) -> Result<(), Memory>
-    requires config { store.now.config ≡ config }
-    requires from { 1 ≤ attempts }
-    requires to { attempts ≤ ATTEMPTS }
-    requires seat { IsSeat config attempts (entries_of store.now.journal) k seat.old }
-    requires left { has_ended seat.old.client ≡ false }
-    ensures seat { OnOk result (IsSeat config attempts (entries_of store.now.journal) k seat.new) }
-    ensures script { seat.new.client.script ≡ seat.old.client.script }
-    ensures op { OnOk result (seat.new.client.op ≡ seat.old.client.op) }
-    ensures at_work { OnOk result
-        (IsAtWork config attempts (length (entries_of store.now.journal)) seat.old seat.new seat.old.work) }
-{
-    if seat.work.is_some() {
-        return Ok(());
-    }
-    match next_step(seat)? {
-        ClientAsk::Send { server, request } => {
-            let work = new_work(alloc, store, config, attempts, server, request)?;
-            set_work(seat, work);
-            Ok(())
-        }
-        ClientAsk::Ended => unreachable!(),
-        ClientAsk::CallEnd { .. } => unreachable!(),
-    }
-}
-
-// ---- a call ends
-
-/// What a task that is done came to.
-fn outcome_of(alloc: Global, task: &MetaTask) -> Result<Outcome, Memory>
-    requires { (outcome : Outcome) × (task.now.outcome ≡ Some outcome) }
-    ensures { IfOk result (λ outcome. task.now.outcome ≡ Some outcome) }
-{
-    match task.outcome() {
-        Some(outcome) => {
-            let copy = outcome.try_clone(alloc)?;
-            Ok(copy)
-        }
-        None => unreachable!(),
-    }
-}
-
-fn only(receipts: Items<Receipt>) -> Receipt
-    requires { (receipt : Receipt) × (receipts ≡ receipt ∷ []) }
-    ensures { receipts ≡ result ∷ [] }
-{
-    let mut receipts = receipts.into_vec();
-    match receipts.pop() {
-        Some(receipt) => receipt,
-        None => unreachable!(),
-    }
-}
-
-/// The client learns what its call came to, and keeps a receipt.
-fn learn(client: &mut ClientState, server: u8, outcome: Outcome) -> Result<Receipt, Memory>
-    requires { (request : RequestView) × (client.old.request ≡ Some request) }
-    ensures client { OnOk result (client.new ≡ (end_call client.old server outcome client.old.request).0) }
-    ensures receipt { IfOk result
-        (λ receipt. client_asks.CallEnd (receipt ∷ []) true
-        ≡ (end_call client.old server outcome client.old.request).1) }
-    ensures script { client.new.script ≡ client.old.script }
-{
-    match client.next(ClientAnswer::Replied(server, outcome))? {
-        ClientAsk::CallEnd { receipts, .. } => Ok(only(receipts)),
-        _ => unreachable!(),
-    }
-}
-
-/// The journal's front, and none of what the storage nodes do.
-fn fronts(alloc: Global, config: &Config, front: u64) -> Result<Items<u64>, Memory>
-    ensures { IfOk result (λ fronts. fronts ≡ fronts_of config.now front) }
-{
-    let mut fronts = Items::new(alloc);
-    fronts.push(front)?;
-    for _node in 0..config.nodes() {
-        fronts.push(0)?;
-    }
-    Ok(fronts)
-}
-
-/// Ends the call with its outcome.
-fn finish(
-    alloc: Global,
-    config: Config,
-    k: u16,
-    seat: &mut Seat,
-    server: u8,
-    front: u64,
-    task: MetaTask,
-) -> Result<(), Memory>
-    requires idle { seat.old.work ≡ None }
-    requires sent { (request : RequestView) × (seat.old.client.request ≡ Some request) }
-    requires ended { (outcome : Outcome) × (task.outcome ≡ Some outcome) }
-    ensures script { seat.new.client.script ≡ seat.old.client.script }
-    ensures learned { OnOk result (HasLearned config k seat.old seat.new server front task) }
-{
-    let outcome = outcome_of(alloc, &task)?;
-    let_go(task);
-    let receipt = learn(&mut seat.client, server, outcome)?;
-    let text = text_of(alloc, &receipt.call, &receipt.reply)?;
-    let fronts = fronts(alloc, &config, front)?;
-    seat.receipts.push(Listed {
-        client: k,
-        fronts,
-        receipt,
-        text,
-    })
-}
-
-fn is_done(ask: &Ask) -> bool
-    ensures { result ≡ is_done ask.now }
-{
-    matches!(ask, Ask::Done)
-}
-
-/// Gives a client its receipt, or what goes on.
-fn settle(alloc: Global, config: Config, k: u16, seat: &mut Seat, work: Work) -> Result<(), Memory>
-    requires idle { seat.old.work ≡ None }
-    requires sent { (request : RequestView) × (seat.old.client.request ≡ Some request) }
-    requires ended { is_done work.ask ≡ true → (outcome : Outcome) × (work.task.outcome ≡ Some outcome) }
-    ensures script { seat.new.client.script ≡ seat.old.client.script }
-    ensures comes { OnOk result (Comes config k seat.old seat.new work (is_done work.ask)) }
-{
-    if !is_done(&work.ask) {
-        set_work(seat, work);
-        return Ok(());
-    }
-    let Work {
-        task,
-        ask: _,
-        server,
-        front,
-    } = work;
-    finish(alloc, config, k, seat, server, front, task)
-}
 
 /// One ask of a request.
 fn advance(alloc: Global, store: &mut KvState<MetaEntry>, work: Work) -> Result<Work, Memory>
@@ -262,7 +42,7 @@ fn advance(alloc: Global, store: &mut KvState<MetaEntry>, work: Work) -> Result<
         (λ new. IsExchange store.old.config (entries_of store.old.journal) (entries_of store.new.journal)
         work.task work.ask new.task new.ask) }
     ensures work { IfOk result (λ new. new ≡ record work { task = new.task; ask = new.ask }) }
-    ensures grows { IsGrowth store.old store.new work.task.request.client }
+    ensures grows { IsGrowthOf store.old store.new work.task.request }
     ensures few { OnOk result (length store.new.journal ≤ JOURNAL_ENTRIES) }
     ensures covered { AreCovered store.old.config (entries_of store.old.journal)
         → OnOk result (AreCovered store.old.config (entries_of store.new.journal)) }
@@ -282,34 +62,58 @@ fn advance(alloc: Global, store: &mut KvState<MetaEntry>, work: Work) -> Result<
     })
 }
 
-/// One ask of the client's request, which is under way.
+/// The server that was asked, and the number of the stop that came behind the ask.
+#[derive(Clone, Copy, Debug)]
+struct Asking {
+    server: u8,
+    stop: Option<u32>,
+}
+
+/// One ask of the client's request, which a server works on.
 fn go_on(
     alloc: Global,
     store: &mut KvState<MetaEntry>,
     config: Config,
     attempts: u8,
+    servers: &mut Servers,
     k: u16,
     seat: &mut Seat,
-) -> Result<(), Memory>
+) -> Result<Asking, Memory>
     requires config { store.old.config ≡ config }
     requires opened { IsStoreOpening store.old }
-    requires seat { IsSeat config attempts (entries_of store.old.journal) k seat.old }
+    requires short { length store.old.journal ≤ JOURNAL_ENTRIES }
+    requires few { length servers.old.stops ≤ STOPS }
+    requires counted { AreCounted config servers.old.stops (entries_of store.old.journal) servers.old.counts.items }
+    requires seat { IsSeat config attempts servers.old.stops (entries_of store.old.journal) k seat.old }
     requires covered { AreCovered config (entries_of store.old.journal) }
     requires there { (work : WorkView) × (seat.old.work ≡ Some work) }
+    ensures stops { servers.new.stops ≡ servers.old.stops }
     ensures kept { OnOk result
-        (IsSeat config attempts (entries_of store.new.journal) k seat.new
+        (IsSeat config attempts servers.old.stops (entries_of store.new.journal) k seat.new
         × AreCovered config (entries_of store.new.journal) × (length store.new.journal ≤ JOURNAL_ENTRIES)) }
-    ensures exchanged { OnOk result
-        (HasExchanged config k (entries_of store.old.journal) (entries_of store.new.journal) seat.old
-        seat.new) }
+    ensures counts { OnOk result
+        (AreCounted config servers.old.stops (entries_of store.new.journal) servers.new.counts.items) }
+    ensures planned { IfOk result (λ asking. (number : ℕ) → asking.stop ≡ Some number
+        → IsPlannedStop servers.old.stops (entries_of store.new.journal) (asking.server, number)) }
+    ensures exchanged { IfOk result
+        (λ asking. HasExchanged config k asking.server asking.stop (entries_of store.old.journal)
+        (entries_of store.new.journal) seat.old seat.new) }
+    ensures counted { IfOk result
+        (λ asking. HasCounted servers.old.stops asking.server
+        (has_made (entries_of store.old.journal) (entries_of store.new.journal)) asking.stop
+        servers.old.counts.items servers.new.counts.items) }
     ensures script { seat.new.client.script ≡ seat.old.client.script }
     ensures step { IsGrowth store.old store.new seat.old.client.script.id }
 {
     let Some(work) = take_work(seat) else {
         unreachable!()
     };
+    let server = work.server;
+    let before = store.front();
     let work = advance(alloc, store, work)?;
-    settle(alloc, config, k, seat, work)
+    let stop = servers.count(server, before < store.front())?;
+    settle(alloc, config, k, seat, work, stop)?;
+    Ok(Asking { server, stop })
 }
 
 /// One turn of a client: at most one ask.
@@ -318,38 +122,53 @@ fn turn(
     store: &mut KvState<MetaEntry>,
     config: Config,
     attempts: u8,
+    servers: &mut Servers,
     k: u16,
     seat: &mut Seat,
-) -> Result<(), Memory>
+) -> Result<Asking, Memory>
     requires config { store.old.config ≡ config }
     requires opened { IsStoreOpening store.old }
     requires from { 1 ≤ attempts }
     requires to { attempts ≤ ATTEMPTS }
+    requires short { length store.old.journal ≤ JOURNAL_ENTRIES }
+    requires few { length servers.old.stops ≤ STOPS }
     requires left { has_ended seat.old.client ≡ false }
-    requires seat { IsSeat config attempts (entries_of store.old.journal) k seat.old }
+    requires counted { AreCounted config servers.old.stops (entries_of store.old.journal) servers.old.counts.items }
+    requires seat { IsSeat config attempts servers.old.stops (entries_of store.old.journal) k seat.old }
     requires covered { AreCovered config (entries_of store.old.journal) }
+    ensures stops { servers.new.stops ≡ servers.old.stops }
     ensures kept { OnOk result
-        (IsSeat config attempts (entries_of store.new.journal) k seat.new
+        (IsSeat config attempts servers.old.stops (entries_of store.new.journal) k seat.new
         × AreCovered config (entries_of store.new.journal) × (length store.new.journal ≤ JOURNAL_ENTRIES)) }
-    ensures event { OnOk result
-        (IsEvent config attempts k (entries_of store.old.journal) (entries_of store.new.journal) seat.old
-        seat.new) }
+    ensures counts { OnOk result
+        (AreCounted config servers.old.stops (entries_of store.new.journal) servers.new.counts.items) }
+    ensures planned { IfOk result (λ asking. (number : ℕ) → asking.stop ≡ Some number
+        → IsPlannedStop servers.old.stops (entries_of store.new.journal) (asking.server, number)) }
+    ensures event { IfOk result
+        (λ asking. IsEvent config attempts k asking.server asking.stop (entries_of store.old.journal)
+        (entries_of store.new.journal) seat.old seat.new) }
+    ensures counted { IfOk result
+        (λ asking. HasCounted servers.old.stops asking.server
+        (has_made (entries_of store.old.journal) (entries_of store.new.journal)) asking.stop
+        servers.old.counts.items servers.new.counts.items) }
     ensures script { seat.new.client.script ≡ seat.old.client.script }
     ensures step { IsGrowth store.old store.new seat.old.client.script.id }
 {
     start(alloc, store, config, attempts, k, seat)?;
-    go_on(alloc, store, config, attempts, k, seat)
+    go_on(alloc, store, config, attempts, servers, k, seat)
 }
 
 /// One turn of the client at this place: at most one ask, answered by the store.
 ///
-/// Where no request of the client is under way, it sends its next one first; where the answer ends the
-/// request, the client learns it in the same turn.
+/// Where no server works on a request of the client, it sends one first: its next one, or the one whose server
+/// stopped. The server counts the ask. Where it stops then, each client whose request it worked on learns so, and
+/// else the client learns in the same turn what its request came to, if the answer ends it.
 pub fn event(
     alloc: Global,
     store: &mut KvState<MetaEntry>,
     config: Config,
     attempts: u8,
+    servers: &mut Servers,
     seats: &mut Vec<Seat>,
     k: u16,
 ) -> Result<(), Memory>
@@ -357,27 +176,38 @@ pub fn event(
     requires begun { IsStoreOpening store.old }
     requires from { 1 ≤ attempts }
     requires to { attempts ≤ ATTEMPTS }
+    requires few { length servers.old.stops ≤ STOPS }
     requires distinct { AreDistinct (scripts_of_seats seats.old.items) }
     requires within { k < length seats.old.items }
     requires left { (seat : SeatView) → slice_get seats.old.items k ≡ Some seat → has_ended seat.client ≡ false }
-    requires seated { AreSeated config attempts (entries_of store.old.journal) seats.old.items }
-    ensures seated { OnOk result (AreSeated config attempts (entries_of store.new.journal) seats.new.items) }
+    requires seated { AreSeated config attempts servers.old.stops servers.old.counts.items
+        (entries_of store.old.journal) seats.old.items }
+    ensures seated { OnOk result
+        (AreSeated config attempts servers.old.stops servers.new.counts.items (entries_of store.new.journal)
+        seats.new.items) }
     ensures scripts { scripts_of_seats seats.new.items ≡ scripts_of_seats seats.old.items }
+    ensures stops { servers.new.stops ≡ servers.old.stops }
     ensures config { store.new.config ≡ store.old.config }
     ensures begun { IsStoreOpening store.new }
     ensures step { (seat : SeatView) → slice_get seats.old.items k ≡ Some seat
         → IsGrowth store.old store.new seat.client.script.id }
     ensures goes { OnOk result (SeatsGoOn seats.old.items seats.new.items k) }
-    ensures event { (before after : SeatView) → slice_get seats.old.items k ≡ Some before
-        → slice_get seats.new.items k ≡ Some after
-        → OnOk result (IsEvent config attempts k (entries_of store.old.journal) (entries_of store.new.journal) before after) }
+    ensures turn { OnOk result
+        (IsTurnOf config attempts k servers.old.stops (entries_of store.old.journal) (entries_of store.new.journal)
+        servers.old.counts.items servers.new.counts.items seats.old.items seats.new.items) }
 {
-    turn(
+    sound_store(store);
+    let asking = turn(
         alloc,
         store,
         config,
         attempts,
+        servers,
         k,
         &mut seats[usize::from(k)],
-    )
+    )?;
+    match asking.stop {
+        None => Ok(()),
+        Some(stop) => lose_all(seats, asking.server, stop),
+    }
 }

@@ -17,6 +17,8 @@ pub enum Shown {
     Run,
     Plan,
     Record,
+    /// A run for each stop of each of so many servers after each ask up to so many.
+    Stopped(u8, u32),
 }
 
 #[derive(Drop)]
@@ -70,6 +72,12 @@ fn read_words(alloc: Global, line: &str) -> Result<Vec<String>> {
     Ok(words)
 }
 
+/// `SERVERS ASKS`
+fn read_stops(numbers: &str) -> Result<Shown> {
+    let (servers, asks) = numbers.split_once(' ').context("two numbers")?;
+    Ok(Shown::Stopped(servers.parse::<u8>()?, asks.parse::<u32>()?))
+}
+
 fn read_line(alloc: Global, case: &mut Case, line: &str) -> Result<()> {
     let (key, rest) = line.split_once(' ').unwrap_or((line, ""));
     match key {
@@ -80,6 +88,7 @@ fn read_line(alloc: Global, case: &mut Case, line: &str) -> Result<()> {
         "sink" => case.sink = read_limits(alloc, rest, "room", case.sink.size)?,
         "plan" => case.shown = Shown::Plan,
         "record" => case.shown = Shown::Record,
+        "stops" => case.shown = read_stops(rest)?,
         "#" | "" => {}
         _ => bail!("no such line: {line}"),
     }

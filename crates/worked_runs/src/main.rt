@@ -8,6 +8,10 @@
 //! - `sink room=N failing=N,..`: the same of writes. The room is 1,000,000 bytes.
 //! - `plan`: the scenario isn't run; what it reads as is written.
 //! - `record`: there is no scenario; the lines of the input list a record of a run, and its text is written.
+//! - `stops SERVERS ASKS`: the scenario is run once for each server below SERVERS and each number from 1 to ASKS, with
+//!   one stop, of that server after so many asks. Each text that came out is written once, behind how many runs told
+//!   it, without what a stop may change: its lines `gone` are left out, and `*` stands for the server of a reply and
+//!   for the number behind `made`.
 //! - `# REMARK`
 //! - `scenario`, last, and behind it the lines of the input. The last one has no line feed at its end.
 //!
@@ -25,6 +29,7 @@ mod case;
 mod draft;
 mod marks;
 mod outcome;
+mod stopped;
 
 use anyhow::{Context, Error, Result};
 use fs_io::{StdSink, write_all};

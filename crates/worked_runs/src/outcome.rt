@@ -1,7 +1,7 @@
 //! What comes of a case.
 
 use crate::case::{Case, Shown};
-use crate::draft;
+use crate::{draft, stopped};
 use anyhow::{Result, ensure};
 use client_core::Script;
 use fs_io::{MemSink, MemSource};
@@ -10,7 +10,7 @@ use run_record::write_replies;
 use scenario::read_scenario;
 use std::alloc::Global;
 
-fn push(out: &mut Vec<u8>, text: &str) -> Result<()> {
+pub fn push(out: &mut Vec<u8>, text: &str) -> Result<()> {
     out.extend_from_slice(text.as_bytes())?;
     Ok(())
 }
@@ -59,6 +59,10 @@ fn tell_plan(alloc: Global, input: &[u8], out: &mut Vec<u8>) -> Result<()> {
     let schedule = &plan.schedule;
     let line = format!(in alloc; "servers={servers} attempts={attempts} {schedule:?}\n")?;
     push(out, line.as_str())?;
+    for stop in plan.stops.as_slice() {
+        let line = format!(in alloc; "{stop:?}\n")?;
+        push(out, line.as_str())?;
+    }
     for script in plan.clients.as_slice() {
         tell_script(alloc, script, out)?;
     }
@@ -81,6 +85,7 @@ pub fn tell(alloc: Global, case: Case, out: &mut Vec<u8>) -> Result<()> {
         Shown::Run => tell_run(alloc, case, out)?,
         Shown::Plan => tell_plan(alloc, case.input.as_slice(), out)?,
         Shown::Record => tell_record(alloc, case.input.as_slice(), out)?,
+        Shown::Stopped(servers, asks) => stopped::tell(alloc, &case, servers, asks, out)?,
     }
     push(out, "\n")
 }

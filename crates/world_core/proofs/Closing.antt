@@ -17,6 +17,7 @@ use Rattle.client_core.specs.Plans.{AreDistinct, IsPlan, IsSchedule, ops_in}
 use Rattle.client_core.specs.declared.plan.Plan.{Plan}
 use Rattle.client_core.specs.declared.plan.Schedule.{Schedule}
 use Rattle.client_core.specs.declared.plan.Script.{Script}
+use Rattle.client_core.specs.declared.plan.Stop.{Stop}
 use Rattle.run_record.specs.Right.{IsRightRecord, conflicts_in, summary_of}
 use Rattle.run_record.specs.declared.run.Record.{Record}
 use Rattle.request_run.specs.Entries.{IsGrowth, entries_of}
@@ -24,8 +25,10 @@ use Rattle.world_core.specs.Objects.{Done, IsStep, Objects, grown, no_histories}
 use Rattle.run_record.specs.Sound.{IsSoundJournal}
 use Rattle.request_run.specs.Sound.{IsStoreOpening}
 use Rattle.seat_turns.specs.Seats.{AreSeated, HaveEnded, receipts_in, scripts_of_seats, seats_of}
+use Rattle.seat_turns.specs.Servers.{counts_of}
 use Rattle.world_core.specs.World.{IsWorld, WorldView, plan_of_world}
 use Rattle.seat_turns.specs.declared.seats.Seat.{Seat}
+use Rattle.seat_turns.specs.declared.servers.ServerCounts.{ServerCounts}
 use Rattle.run_record.proofs.Counting.{few_conflicts}
 use Rattle.world_core.proofs.Righting.{all_sections, right_record}
 use Rattle.request_run.proofs.Rows.{length_entries}
@@ -60,14 +63,12 @@ not_ended seats i k x ended same l is told false_is seat at =
     let x_is : x ≡ seat = cc in
     ap (λ (s : Seat). has_ended s.client) (sym x_is) ∙ (sym told ∙ false_is)
 
-pub world_went : (C : Settings) (attempts : ℕ) (store after : Store MetaEntry) (nodes : List (List Done)) (seats later : List Seat) (schedule : Schedule) (failed : Bool)
-    → IsWorld (record { config = C; attempts = attempts; objects = record { store = store; nodes = nodes }; seats = seats; schedule = schedule; failed = failed })
-    → scripts_of_seats later ≡ scripts_of_seats seats → after.config ≡ store.config → IsStoreOpening after → AreSeated C attempts (entries_of after.journal) later
-    → IsWorld (record { config = C; attempts = attempts; objects = record { store = after; nodes = nodes }; seats = later; schedule = schedule; failed = false })
-world_went C attempts store after nodes seats later schedule failed w scripts config opened seated =
-    let old : WorldView = record { config = C; attempts = attempts; objects = record { store = store; nodes = nodes }; seats = seats; schedule = schedule; failed = failed } in
-    let new : WorldView = record { config = C; attempts = attempts; objects = record { store = after; nodes = nodes }; seats = later; schedule = schedule; failed = false } in
-    let same : length later ≡ length seats = same_seats new old (ap (λ (ss : List Script). record { config = C; attempts = attempts; clients = ss; schedule = schedule }) scripts) in
+pub world_went : (C : Settings) (attempts : ℕ) (store after : Store MetaEntry) (nodes : List (List Done)) (seats later : List Seat) (counts more : List ServerCounts) (stops kept : List Stop) (schedule : Schedule) (failed : Bool)
+    → IsWorld (record { config = C; attempts = attempts; objects = record { store = store; nodes = nodes }; seats = seats; counts = counts; stops = stops; schedule = schedule; failed = failed })
+    → scripts_of_seats later ≡ scripts_of_seats seats → kept ≡ stops → after.config ≡ store.config → IsStoreOpening after → AreSeated C attempts stops more (entries_of after.journal) later
+    → IsWorld (record { config = C; attempts = attempts; objects = record { store = after; nodes = nodes }; seats = later; counts = more; stops = kept; schedule = schedule; failed = false })
+world_went C attempts store after nodes seats later counts more stops kept schedule failed w scripts stays config opened seated =
+    let same : length later ≡ length seats = sym (length_scripts later) ∙ (ap (λ (ss : List Script). length ss) scripts ∙ length_scripts seats) in
     record {
       config = config ∙ w.config;
       opened = opened;
@@ -76,23 +77,32 @@ world_went C attempts store after nodes seats later schedule failed w scripts co
       distinct = subst AreDistinct (sym scripts) w.distinct;
       few = subst (λ n. n ≤ 64) (sym same) w.few;
       short = subst (λ (ss : List Script). ops_in ss ≤ 4000) (sym scripts) w.short;
+      few_stops = subst (λ (ss : List Stop). length ss ≤ 64) (sym stays) w.few_stops;
       schedule = subst (λ n. IsSchedule n schedule) (sym same) w.schedule;
-      seated = λ alive. seated;
+      seated = λ alive. subst (λ (ss : List Stop). AreSeated C attempts ss more (entries_of after.journal) later) (sym stays) seated;
     }
+
+-- scripts and stops are all that a turn could change of a plan
+pub plan_went : (C : Settings) (attempts : ℕ) (seats later : List Seat) (stops kept : List Stop) (schedule : Schedule) → scripts_of_seats later ≡ scripts_of_seats seats → kept ≡ stops
+    → (let after : Plan = record { config = C; attempts = attempts; clients = scripts_of_seats later; stops = kept; schedule = schedule } in after)
+    ≡ record { config = C; attempts = attempts; clients = scripts_of_seats seats; stops = stops; schedule = schedule }
+plan_went C attempts seats later stops kept schedule scripts stays =
+    λ i. record { config = C; attempts = attempts; clients = scripts i; stops = stays i; schedule = schedule }
 
 pub store_open : (C : Settings) (rows : List Row) (store : Store MetaEntry) → rows ≡ opening_bytes C → HasTree C rows (new_tree C) → store ≡ record { config = C; opening = rows; journal = [] } → IsStoreOpening store
 store_open C rows store value tree is =
     subst (λ (s : Store MetaEntry). IsStoreOpening s) (sym is) (record { opening = value; tree = subst (λ (r : List Row). HasTree C r (new_tree C)) value tree })
 
-module _ (plan : Plan) (store : Store MetaEntry) (seats : List Seat) (are : seats ≡ seats_of plan.config plan.clients) where
+module _ (plan : Plan) (store : Store MetaEntry) (seats : List Seat) (counts : List ServerCounts) (stops : List Stop)
+    (are : seats ≡ seats_of plan.config plan.clients) (counted : counts ≡ counts_of plan.config) (planned : stops ≡ plan.stops) where
   scripts_same : scripts_of_seats seats ≡ plan.clients
   scripts_same = ap (λ (ss : List Seat). scripts_of_seats ss) are ∙ scripts_new plan.config plan.clients
 
-  pub plan_new : plan_of_world (record { config = plan.config; attempts = plan.attempts; objects = record { store = store; nodes = no_histories plan.config.nodes }; seats = seats; schedule = plan.schedule; failed = false }) ≡ plan
-  plan_new = ap (λ (ss : List Script). record { config = plan.config; attempts = plan.attempts; clients = ss; schedule = plan.schedule }) scripts_same
+  pub plan_new : plan_of_world (record { config = plan.config; attempts = plan.attempts; objects = record { store = store; nodes = no_histories plan.config.nodes }; seats = seats; counts = counts; stops = stops; schedule = plan.schedule; failed = false }) ≡ plan
+  plan_new = λ i. record { config = plan.config; attempts = plan.attempts; clients = scripts_same i; stops = planned i; schedule = plan.schedule }
 
   pub world_new : IsPlan plan → store.config ≡ plan.config → store.journal ≡ [] → IsStoreOpening store
-      → IsWorld (record { config = plan.config; attempts = plan.attempts; objects = record { store = store; nodes = no_histories plan.config.nodes }; seats = seats; schedule = plan.schedule; failed = false })
+      → IsWorld (record { config = plan.config; attempts = plan.attempts; objects = record { store = store; nodes = no_histories plan.config.nodes }; seats = seats; counts = counts; stops = stops; schedule = plan.schedule; failed = false })
   world_new h config none opened =
       let count : length plan.clients ≡ length seats = sym (ap (λ (ss : List Script). length ss) scripts_same) ∙ length_scripts seats in
       record {
@@ -103,10 +113,13 @@ module _ (plan : Plan) (store : Store MetaEntry) (seats : List Seat) (are : seat
         distinct = subst (λ (ss : List Script). AreDistinct ss) (sym scripts_same) h.distinct;
         few = subst (λ (n : ℕ). n ≤ 64) count h.few;
         short = subst (λ (ss : List Script). ops_in ss ≤ 4000) (sym scripts_same) h.short;
+        few_stops = subst (λ (ss : List Stop). length ss ≤ 64) (sym planned) h.few_stops;
         schedule = subst (λ (n : ℕ). IsSchedule n plan.schedule) count h.schedule;
         seated = λ alive.
-            subst (λ (js : List MetaEntry). AreSeated plan.config plan.attempts (entries_of js) seats) (sym none)
-            (subst (λ (ss : List Seat). AreSeated plan.config plan.attempts [] ss) (sym are) (seated_new plan.config plan.attempts plan.clients h.scripts));
+            subst (λ (js : List MetaEntry). AreSeated plan.config plan.attempts stops counts (entries_of js) seats) (sym none)
+            (subst (λ (ss : List Seat). AreSeated plan.config plan.attempts stops counts [] ss) (sym are)
+            (subst (λ (cs : List ServerCounts). AreSeated plan.config plan.attempts stops cs [] (seats_of plan.config plan.clients)) (sym counted)
+            (seated_new plan.config plan.attempts stops plan.clients h.scripts)));
       }
 
 -- ---- a world that has ended
@@ -115,7 +128,7 @@ pub few_kept : (w : WorldView) → IsWorld w → w.failed ≡ false → HaveEnde
 few_kept w h alive ended short =
     let journal : List Entry = entries_of w.objects.store.journal in
     few_conflicts w.config w.attempts journal (scripts_of_seats w.seats) (receipts_in w.seats)
-    (all_sections w.config w.attempts journal w.seats (h.seated alive) ended)
+    (all_sections w.config w.attempts w.stops w.counts journal w.seats (h.seated alive) ended)
     (subst (λ (n : ℕ). n ≤ 200000) (sym (length_entries w.objects.store.journal)) short)
     h.short
 

@@ -19,7 +19,10 @@ use Rattle.world_core.specs.declared.world.Turn.TheVariants as turns
 
 -- a turn, whatever it did
 pub turn_goes : (old new : WorldView) (k : ℕ) (turn : Turn) → IsTurn old new k turn → SeatsGoOn old.seats new.seats k
-turn_goes old new k turns.Idle h = subst (λ (w : WorldView). SeatsGoOn old.seats w.seats k) (sym h.1) (record { others = λ j apart. refl; own = λ before after at_before at_after. inl (ap (λ (s : Seat). s.client.op) (same_Some after before (sym at_after ∙ at_before))) })
+turn_goes old new k turns.Idle h = subst (λ (w : WorldView). SeatsGoOn old.seats w.seats k) (sym h.1) (record {
+  others = λ j apart before after at_before at_after. ap (λ (s : Seat). s.client.op) (same_Some after before (sym at_after ∙ at_before));
+  own = λ before after at_before at_after. inl (ap (λ (s : Seat). s.client.op) (same_Some after before (sym at_after ∙ at_before)));
+})
 turn_goes old new k turns.Went h = h.seats
 
 -- one turn more, where it went on

@@ -1,18 +1,21 @@
 -- Clients and servers over one store.
 use Rattle.std.specs.Prelude.{◌≡◌, ◌≤◌, ◌<◌, ℕ, zero, suc, List, [], Bool, true, false, length, slice_get, Some}
 use Rattle.fs_base.specs.Config.{Settings}
-use Rattle.fs_base.specs.declared.limits.TheConstants.{ATTEMPTS, CLIENTS, OPERATIONS}
+use Rattle.fs_base.specs.declared.limits.TheConstants.{ATTEMPTS, CLIENTS, OPERATIONS, STOPS}
 use Rattle.client_core.specs.Client.{has_ended}
 use Rattle.client_core.specs.Plans.{AreDistinct, IsSchedule, ops_in}
 use Rattle.client_core.specs.declared.plan.Plan.{Plan}
 use Rattle.client_core.specs.declared.plan.Schedule.{Schedule}
 use Rattle.client_core.specs.declared.plan.Schedule.TheVariants.{Items}
+use Rattle.client_core.specs.declared.plan.Stop.{Stop}
 use Rattle.request_run.specs.Entries.{entries_of}
 use Rattle.request_run.specs.Sound.{IsStoreOpening}
-use Rattle.seat_turns.specs.Events.{IsEvent}
+use Rattle.seat_turns.specs.Events.{IsTurnOf}
 use Rattle.seat_turns.specs.Left.{EndsOne, SeatsGoOn, Stays}
 use Rattle.seat_turns.specs.Seats.{AreSeated, scripts_of_seats, seats_of}
+use Rattle.seat_turns.specs.Servers.{counts_of}
 use Rattle.seat_turns.specs.declared.seats.Seat.{Seat}
+use Rattle.seat_turns.specs.declared.servers.ServerCounts.{ServerCounts}
 use Rattle.world_core.specs.Objects.{IsStep, Objects}
 use Rattle.world_core.specs.declared.world.Turn.{Turn}
 use Rattle.world_core.specs.declared.world.Turn.TheVariants as turns
@@ -22,6 +25,9 @@ pub record WorldView : Type 0 where
   pub attempts : ℕ
   pub objects : Objects
   pub seats : List Seat
+  -- what each server has done
+  pub counts : List ServerCounts
+  pub stops : List Stop
   pub schedule : Schedule
   -- whether memory was wanting
   pub failed : Bool
@@ -33,6 +39,7 @@ plan_of_world w =
       config = w.config;
       attempts = w.attempts;
       clients = scripts_of_seats w.seats;
+      stops = w.stops;
       schedule = w.schedule;
     }
 
@@ -45,13 +52,16 @@ pub record IsWorld (w : WorldView) : Type 0 where
   pub distinct : AreDistinct (scripts_of_seats w.seats)
   pub few : length w.seats ≤ CLIENTS
   pub short : ops_in (scripts_of_seats w.seats) ≤ OPERATIONS
+  pub few_stops : length w.stops ≤ STOPS
   pub schedule : IsSchedule (length w.seats) w.schedule
-  pub seated : w.failed ≡ false → AreSeated w.config w.attempts (entries_of w.objects.store.journal) w.seats
+  pub seated : w.failed ≡ false
+      → AreSeated w.config w.attempts w.stops w.counts (entries_of w.objects.store.journal) w.seats
 
 -- a world of this plan in which nothing has happened yet
 pub record IsOpening (plan : Plan) (w : WorldView) : Type 0 where
   pub plan_is : plan_of_world w ≡ plan
   pub seats : w.seats ≡ seats_of plan.config plan.clients
+  pub counts : w.counts ≡ counts_of plan.config
   pub none : w.objects.store.journal ≡ []
 
 -- ---- turns
@@ -60,12 +70,11 @@ pub record IsOpening (plan : Plan) (w : WorldView) : Type 0 where
 abbrev pub HasEnded : WorldView → ℕ → Bool → Type 0
 HasEnded w client ended = (seat : Seat) → slice_get w.seats client ≡ Some seat → has_ended seat.client ≡ ended
 
--- one event of the client
+-- one event of the client: an ask, and a stop right behind it exactly where one is due
 abbrev pub HasEvent : WorldView → WorldView → ℕ → Type 0
 HasEvent old new client =
-    (before after : Seat) → slice_get old.seats client ≡ Some before → slice_get new.seats client ≡ Some after
-    → IsEvent old.config old.attempts client (entries_of old.objects.store.journal)
-    (entries_of new.objects.store.journal) before after
+    IsTurnOf old.config old.attempts client old.stops (entries_of old.objects.store.journal)
+    (entries_of new.objects.store.journal) old.counts new.counts old.seats new.seats
 
 -- a turn that went on: one event of the client. The plan stays, the objects take at most one step, and memory
 -- sufficed

@@ -40,6 +40,7 @@ fn receipts_of(seat: Seat) -> Items<Listed>
     let Seat {
         client: _,
         work: _,
+        again: _,
         receipts,
     } = seat;
     receipts

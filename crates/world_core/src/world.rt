@@ -7,6 +7,7 @@ ghost use Rattle.request_run.specs.Sound.{IsStoreOpening};
 ghost use Rattle.seat_turns.specs.Left.{AreSeatsAhead, EndsOne, has_left};
 ghost use Rattle.world_core.specs.Order.{AreItems, AreRounds, IsItem, IsWorldRecord, IsOrdered, IsRound};
 ghost use Rattle.seat_turns.specs.Seats.{seats_of};
+ghost use Rattle.seat_turns.specs.Servers.{counts_of};
 ghost use Rattle.world_core.specs.World.{IsOperation, IsOpTurn, IsTurn, WorldView, schedule_items};
 ghost use Rattle.world_core.specs.World.{plan_of_world};
 ghost use Rattle.seat_turns.specs.declared.seats.Seat.{Seat as SeatView};
@@ -20,7 +21,7 @@ use meta_task::MetaEntry;
 use request_run::sound_store;
 use row_tree::opening_rows;
 use run_record::Record;
-use seat_turns::{Seat, event, new_seats};
+use seat_turns::{Seat, Servers, event, new_seats};
 use std::alloc::Global;
 use std::marker::Model;
 
@@ -42,6 +43,7 @@ pub struct World {
     attempts: u8,
     store: KvState<MetaEntry>,
     seats: Vec<Seat>,
+    servers: Servers,
     schedule: Schedule,
     failed: bool,
 }
@@ -61,6 +63,8 @@ impl Model for World {
       attempts = w.attempts;
       objects = record { store = w.store; nodes = no_histories w.config.nodes };
       seats = w.seats.items;
+      counts = w.servers.counts.items;
+      stops = w.servers.stops;
       schedule = w.schedule;
       failed = w.failed;
     } };
@@ -71,6 +75,8 @@ impl Model for World {
           attempts = w.attempts;
           objects = record { store = w.store; nodes = no_histories w.config.nodes };
           seats = w.seats.items;
+          counts = w.servers.counts.items;
+          stops = w.servers.stops;
           schedule = w.schedule;
           failed = w.failed;
         }) };
@@ -110,6 +116,7 @@ impl World {
         requires { IsPlan plan }
         ensures plan { IfOk result (λ world. plan_of_world world ≡ plan) }
         ensures seats { IfOk result (λ world. world.seats ≡ seats_of plan.config plan.clients) }
+        ensures counts { IfOk result (λ world. world.counts ≡ counts_of plan.config) }
         ensures none { IfOk result (λ world. world.objects.store.journal ≡ []) }
         ensures alive { IfOk result (λ world. world.failed ≡ false) }
     {
@@ -117,27 +124,31 @@ impl World {
             config,
             attempts,
             clients,
+            stops,
             schedule,
         } = plan;
         let store = new_store(alloc, &config)?;
         let seats = new_seats(alloc, config, clients)?;
+        let servers = Servers::new(alloc, &config, stops)?;
         Ok(World {
             alloc,
             config,
             attempts,
             store,
             seats,
+            servers,
             schedule,
             failed: false,
         })
     }
 
-    /// One turn of a client: at most one ask, answered by one object. `Idle` exactly where the client has
-    /// nothing left.
+    /// One turn of a client: at most one ask, answered by one object, and a planned stop right behind it where one
+    /// is due. `Idle` exactly where the client has nothing left.
     ///
-    /// Where no request of the client is under way, it sends its next one first; where the answer ends the
-    /// request, the client learns it in the same turn. So every turn of a client that has something left is one
-    /// ask of the store. A world that wanted memory answers so from then on.
+    /// Where no server works on a request of the client, it sends one first; where the answer ends the request,
+    /// the client learns it in the same turn, unless the server stops. So every turn of a client that has something
+    /// left is one ask of the store. A world that wanted memory answers so from then on, and so it does where a
+    /// server has made 2^64 asks.
     pub fn turn(&mut self, client: u16) -> Result<Turn, Memory>
         requires { client < length self.old.seats }
         ensures turn { IfOk result (λ turn. IsTurn self.old self.new client turn) }
@@ -160,6 +171,7 @@ impl World {
             &mut self.store,
             self.config,
             self.attempts,
+            &mut self.servers,
             &mut self.seats,
             client,
         )?;
@@ -286,8 +298,8 @@ impl World {
     /// The plan's schedule, and then rounds until no client has anything left: in each, every client that has
     /// does one whole operation.
     ///
-    /// The order of turns is a clause beside `IsRightRecord`, which holds for every order. No clause counts asks, turns
-    /// or rounds.
+    /// The order of turns is a clause beside `IsRightRecord`, which holds for every order. No clause counts turns or
+    /// rounds.
     pub fn run(mut self) -> Result<Record, Memory>
         ensures right { IfOk result (λ run. IsRightRecord (plan_of_world self) run) }
         ensures order { IfOk result
@@ -313,6 +325,7 @@ impl World {
             attempts: _,
             store,
             seats,
+            servers: _,
             schedule: _,
             failed: _,
         } = self;

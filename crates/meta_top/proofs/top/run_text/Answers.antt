@@ -10,5 +10,5 @@ returns c =
     IfOk-weaker c.write_replies.result _ _
     (λ text written.
     run_of c.args.plan c.in_ok-run.run' text.items c.in_ok-world.world c.requires (subst (λ (plan : Plan). IsRightRecord plan c.in_ok-run.run') c.in_ok-world.ensures.plan c.in_ok-run.ensures.right)
-    (record { plan_is = c.in_ok-world.ensures.plan; seats = c.in_ok-world.ensures.seats; none = c.in_ok-world.ensures.none }) c.in_ok-run.ensures.order written)
+    (record { plan_is = c.in_ok-world.ensures.plan; seats = c.in_ok-world.ensures.seats; counts = c.in_ok-world.ensures.counts; none = c.in_ok-world.ensures.none }) c.in_ok-run.ensures.order written)
     c.write_replies.ensures

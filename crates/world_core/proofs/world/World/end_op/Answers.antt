@@ -24,7 +24,7 @@ loop-preserved c =
     let at_y : slice_get c.turn.new.self.seats c.args.client ≡ Some c.index-in-loop.result.now
     = ap (λ (w : WorldView). slice_get w.seats c.args.client) (sym c.self-in-loop.view_is) ∙ seat_there c.self-in-loop.inside.seats.items c.from-in-loop.result c.args.client c.index-in-loop.result.now c.from-in-loop.ensures there c.index-in-loop.ensures in (
       c.turn.ensures.plan ∙ c.loop.invariant.0,
-      stays_on c.args.self.now.seats c.loop.self.seats c.turn.new.self.seats c.args.client within c.loop.invariant.1 (turn_goes c.loop.self c.turn.new.self c.args.client c.in_ok-turn.field-0 c.in_ok-turn.ensures.turn)
+      stays_on c.args.self.now.seats c.loop.self.seats c.turn.new.self.seats c.args.client within (same_seats c.loop.self c.args.self.now c.loop.invariant.0) c.loop.invariant.1 (turn_goes c.loop.self c.turn.new.self c.args.client c.in_ok-turn.field-0 c.in_ok-turn.ensures.turn)
           (ops_same c.args.self.now.seats c.turn.new.self.seats c.args.client c.index.result.now c.index-in-loop.result.now c.ended_ops-before.result c.ended_ops.result at_x at_y c.ended_ops-before.ensures c.ended_ops.ensures c.if-ended_ops-before.false),
       turns_on c.args.self.now c.loop.self c.turn.new.self c.args.client c.in_ok-turn.field-0 c.loop.invariant.2 c.in_ok-turn.ensures.turn,
     )
@@ -40,6 +40,6 @@ returns-then-ended_ops-before-clause-ended c =
     = ap (λ (w : WorldView). slice_get w.seats c.args.client) (sym c.self-in-loop.view_is) ∙ seat_there c.self-in-loop.inside.seats.items c.from-in-loop.result c.args.client c.index-in-loop.result.now c.from-in-loop.ensures there c.index-in-loop.ensures in
     let more : (before after : Seat) → slice_get c.args.self.now.seats c.args.client ≡ Some before → slice_get c.turn.new.self.seats c.args.client ≡ Some after → after.client.op ≢ before.client.op
     = ops_apart c.args.self.now.seats c.turn.new.self.seats c.args.client c.index.result.now c.index-in-loop.result.now c.ended_ops-before.result c.ended_ops.result at_x at_y c.ended_ops-before.ensures c.ended_ops.ensures c.if-ended_ops-before.true in (
-      ends_one c.args.self.now.seats c.loop.self.seats c.turn.new.self.seats c.args.client within c.loop.invariant.1 (turn_goes c.loop.self c.turn.new.self c.args.client c.in_ok-turn.field-0 c.in_ok-turn.ensures.turn) more,
+      ends_one c.args.self.now.seats c.loop.self.seats c.turn.new.self.seats c.args.client within (same_seats c.loop.self c.args.self.now c.loop.invariant.0) c.loop.invariant.1 (turn_goes c.loop.self c.turn.new.self c.args.client c.in_ok-turn.field-0 c.in_ok-turn.ensures.turn) more,
       operation c.args.self.now c.loop.self c.turn.new.self c.args.client c.in_ok-turn.field-0 c.requires within c.loop.invariant.1 c.loop.invariant.2 c.in_ok-turn.ensures.turn more,
     )

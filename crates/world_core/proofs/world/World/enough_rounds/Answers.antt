@@ -9,5 +9,5 @@ pub returns : goal.returns
 returns c =
     let alive : c.self.inside.failed ≡ false = ap (λ (w : WorldView). w.failed) c.self.view_is ∙ c.requires.alive in
     subst (λ (w : WorldView). has_left w.seats ≡ false) c.self.view_is
-    (none_left c.self.inside.config c.self.inside.attempts (entries_of c.self.inside.store.journal) c.self.inside.seats.items (c.self.invariant.seated alive).all
+    (none_left c.self.inside.config c.self.inside.attempts c.self.inside.servers.stops (entries_of c.self.inside.store.journal) c.self.inside.seats.items (c.self.invariant.seated alive).all
     (subst (λ (w : WorldView). AreSeatsAhead 4000 w.seats) (sym c.self.view_is) c.requires.ahead))
